@@ -1,0 +1,10 @@
+pub mod Octets
+pub mod Splice
+pub mod Shortest
+pub mod Codec
+pub mod Integer
+pub mod Header
+pub mod Element
+pub mod Chain
+pub mod Tree
+pub mod Walks

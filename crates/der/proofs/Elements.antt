@@ -1,0 +1,193 @@
+-- What the walk answers, in plain variables: one law for each answer of an element, of a run and of the whole.
+-- The count goes along in the code and is added up in the tree (`shift`). Assumes nothing.
+use mathlib.Core.Path.{_≡_, refl, ap, sym, subst, _∙_}
+use mathlib.Core.Bool.{Bool, true, false}
+use mathlib.Core.List.{List, []}
+use Prim.Native.Nat.{ℕ, zero, suc, _+_, _-_, _%_, _<_, _≤_}
+use native.Mathlib.Nat.{add-assoc, add-zero, zero-add, le-refl}
+use native.Mathlib.Numerals.{sub-one}
+use native.Mathlib.Omega.{arith}
+use lib.Dec.{eqb}
+use lib.ListN.{length, take, drop, length-take}
+use lib.Seq.{slice, slice-empty, length-slice, drop-drop, take-length, take-take, take-add, drop-at, length-take-le}
+use borrow.Author.Tests.{lt-ltb, le-ltb, eq-eqb, ne-eqb, le-leb, lt-leb}
+use Rattle.answer.specs.Answer.{Answer, got, refused, guard, bind, pick}
+use Rattle.answer.proofs.Answer.{got-inj, refused-got, refused-as}
+use Rattle.codec.specs.Octets.{Taken, taken}
+use Rattle.codec.specs.Header.{Identifier, identifier, holds, readHeader}
+use Rattle.codec.specs.Element.{exactly}
+use Rattle.codec.specs.Tree.{Node, Nodes, node, none, and, nodes, allNodes, run, walkElement, firstPass}
+use Rattle.codec.proofs.Octets.{same-taken}
+use Rattle.codec.proofs.Tree.{run-none, run-step}
+use Rattle.der.specs.Header.{ofHeader, HeaderInside}
+use Rattle.der.specs.Walk.{ofStep, ofRun, counted, summed, nodeCount, StepInside, StepAt}
+use Rattle.der.specs.declared.header.Header.{Header}
+use Rattle.der.specs.declared.walk.Step.{Step}
+
+-- ---- an element
+
+flat : (f n : ℕ) → f % 2 ≡ 0 → holds (identifier f n) ≡ false
+unfolding holds
+flat f n h = ne-eqb (f % 2) 1 (omega arith)
+
+holding : (f n : ℕ) → (f % 2 ≡ 0 → ⊥) → holds (identifier f n) ≡ true
+unfolding holds
+holding f n h = eq-eqb (f % 2) 1 (omega arith)
+
+-- parts of a part
+rest-part : (s : List ℕ) (b end z : ℕ) → drop z (slice b end s) ≡ slice (b + z) end s
+rest-part s b end z = drop-drop z b (take end s)
+
+front-part : (s : List ℕ) (b end z : ℕ) → end ≤ length s → b + z ≤ end → take z (slice b end s) ≡ slice b (b + z) s
+front-part s b end z fit h =
+    let l : List ℕ = take end s in
+    sym (drop-at (take b l) (take z (drop b l)) b (length-take-le b l (omega (arith, length-take end s))))
+    ∙ rw (← take-add b z l, take-take (b + z) end s h) refl
+
+-- what a holder's run answers is what the holder answers
+run-as-step : (s : List ℕ) (end at met x : ℕ) (i : Identifier) (c : List ℕ) (M : Answer Nodes) (out : Step) → ofRun out ≡ summed (met + 1) M → StepAt x out
+    → ofStep s end out ≡ counted met (bind M (λ ts. got (taken (node at i c ts) x (slice x end s))))
+unfolding bind nodes
+run-as-step s end at met x i c (got ts) (Step.Past y m) e st = rw st (same-taken _ _ _ _ _ (got-inj e ∙ omega arith) refl)
+run-as-step s end at met x i c (refused k p) (Step.Refused k₂ p₂) e st = refused-as e
+run-as-step s end at met x i c (got ts) (Step.Refused k p) e st = absurd (refused-got e)
+run-as-step s end at met x i c (refused k p) (Step.Past y m) e st = absurd (refused-got (sym e))
+
+module _ (s : List ℕ) (most end at met : ℕ) where
+  pub element-deep : (d : ℕ) → d ≡ 0 → refused 5 at ≡ counted met (walkElement most d met at (slice at end s))
+  unfolding walkElement
+  element-deep zero e = refl
+  element-deep (suc d) e = absurd (omega arith)
+
+  pub element-many : (d : ℕ) → (d ≡ 0 → ⊥) → most ≤ met → refused 6 at ≡ counted met (walkElement most d met at (slice at end s))
+  unfolding walkElement guard
+  element-many zero e h = absurd (e refl)
+  element-many (suc d) e h = simp (le-ltb _ _ h)
+
+  pub element-no : (d k p : ℕ) (r : Header) → (d ≡ 0 → ⊥) → met < most → ofHeader s end r ≡ readHeader at (slice at end s) → r ≡ Header.Refused k p
+      → refused k p ≡ counted met (walkElement most d met at (slice at end s))
+  unfolding walkElement guard bind
+  element-no zero k p r e h q w = absurd (e refl)
+  element-no (suc d) k p r e h q w = simp (lt-ltb _ _ h, ← q, w)
+
+  module _ (f m z b : ℕ) (r : Header) where
+    pub element-flat : (d : ℕ) → (d ≡ 0 → ⊥) → met < most → ofHeader s end r ≡ readHeader at (slice at end s) → r ≡ Header.Is f m z b → f % 2 ≡ 0
+        → got (taken (met + 1) (b + z) (slice (b + z) end s)) ≡ counted met (walkElement most d met at (slice at end s))
+    unfolding walkElement guard bind pick nodes allNodes
+    element-flat zero e h q w o = absurd (e refl)
+    element-flat (suc d) e h q w o = simp (lt-ltb _ _ h, ← q, w, flat f m o, rest-part)
+
+    pub element-run : (d : ℕ) (out : Step) → end ≤ length s → (d ≡ 0 → ⊥) → met < most → HeaderInside at end r → ofHeader s end r ≡ readHeader at (slice at end s) → r ≡ Header.Is f m z b → (f % 2 ≡ 0 → ⊥)
+        → ((g : ℕ) → b + z - b ≤ g → ofRun out ≡ summed (met + 1) (run (walkElement most (d - 1)) g (met + 1) b (slice b (b + z) s))) → StepAt (b + z) out
+        → ofStep s end out ≡ counted met (walkElement most d met at (slice at end s))
+    unfolding walkElement guard bind pick
+    element-run zero out fit e h i q w o ih st = absurd (e refl)
+    element-run (suc d) out fit e h i q w o ih st =
+        let j : (at < b) × (b + z ≤ end) = subst (HeaderInside at end) w i in
+        simp (lt-ltb _ _ h, ← q, w, holding f m o, rest-part, front-part s b end z fit (j .1))
+        (run-as-step s end at met (b + z) (identifier f m) (slice b (b + z) s) (run (walkElement most d) z (met + 1) b (slice b (b + z) s)) out (rw sub-one at (ih z (omega arith))) st)
+
+module _ (end at f m z b : ℕ) (r : Header) where
+  pub header-in : HeaderInside at end r → r ≡ Header.Is f m z b → (at < b) × (b + z ≤ end)
+  header-in i w = subst (HeaderInside at end) w i
+
+  pub inside-run : (out : Step) → HeaderInside at end r → r ≡ Header.Is f m z b → StepAt (b + z) out → StepInside at end out
+  inside-run (Step.Past x k) i w st = let j = header-in i w in omega arith
+  inside-run (Step.Refused k p) i w st = tt
+
+-- ---- a run
+
+-- the count goes along, or is added up in the tree
+shift : (met : ℕ) (t : Node) (M : Answer Nodes) → summed (met + nodes t) M ≡ summed met (bind M (λ ts. got (and t ts)))
+unfolding bind allNodes
+shift met t (got ts) = ap got (add-assoc _ _ _)
+shift met t (refused k p) = refl
+
+module _ (s : List ℕ) (one : ℕ → ℕ → List ℕ → Answer (Taken Node)) (end at met : ℕ) where
+  pub run-end : at ≡ end → (f : ℕ) → end - at ≤ f → got met ≡ summed met (run one f met at (slice at end s))
+  unfolding allNodes
+  run-end e f h = let z : slice at end s ≡ [] = rw e (slice-empty end s) in rw (z, run-none) (ap got (sym (add-zero met)))
+
+  turn : (f : ℕ) → (at ≡ end → ⊥) → at ≤ end → end ≤ length s
+      → run one (suc f) met at (slice at end s) ≡ bind (one met at (slice at end s)) (λ w. bind (run one f (met + nodes (w .val)) (w .next) (w .rest)) (λ ts. got (and (w .val) ts)))
+  turn f e l fit = run-step one f met at (slice at end s) (omega (arith, length-slice at end s fit))
+
+  pub run-no : (k p : ℕ) (r : Step) → (at ≡ end → ⊥) → at ≤ end → end ≤ length s → ofStep s end r ≡ counted met (one met at (slice at end s)) → r ≡ Step.Refused k p
+      → (f : ℕ) → end - at ≤ f → refused k p ≡ summed met (run one f met at (slice at end s))
+  unfolding bind
+  run-no k p r e l fit q w zero h = absurd (e (omega arith))
+  run-no k p r e l fit q w (suc f) h = rw (turn f e l fit) (go (one met at (slice at end s)) (rw w at q))
+    where
+      go : (R : Answer (Taken Node)) → refused k p ≡ counted met R → refused k p ≡ summed met (bind R (λ w. bind (run one f (met + nodes (w .val)) (w .next) (w .rest)) (λ ts. got (and (w .val) ts))))
+      go (got v) z = absurd (refused-got z)
+      go (refused k₂ p₂) z = refused-as z
+
+  pub run-more : (x m : ℕ) (r out : Step) → (at ≡ end → ⊥) → at ≤ end → end ≤ length s → StepInside at end r → ofStep s end r ≡ counted met (one met at (slice at end s)) → r ≡ Step.Past x m
+      → ((g : ℕ) → end - x ≤ g → ofRun out ≡ summed m (run one g m x (slice x end s)))
+      → (f : ℕ) → end - at ≤ f → ofRun out ≡ summed met (run one f met at (slice at end s))
+  unfolding bind
+  run-more x m r out e l fit i q w ih zero h = absurd (e (omega arith))
+  run-more x m r out e l fit i q w ih (suc f) h =
+      let j : (at < x) × (x ≤ end) = subst (StepInside at end) w i in
+      rw (turn f e l fit) (go (one met at (slice at end s)) (rw w at q) (ih f (omega arith)))
+    where
+      go : (R : Answer (Taken Node)) → got (taken m x (slice x end s)) ≡ counted met R → ofRun out ≡ summed m (run one f m x (slice x end s))
+          → ofRun out ≡ summed met (bind R (λ w. bind (run one f (met + nodes (w .val)) (w .next) (w .rest)) (λ ts. got (and (w .val) ts))))
+      go (got v) z y =
+          let g = got-inj z in
+          let a : m ≡ met + nodes (v .val) = ap (λ (u : Taken ℕ). u .val) g in
+          let b : x ≡ v .next = ap (λ (u : Taken ℕ). u .next) g in
+          let c : slice x end s ≡ v .rest = ap (λ (u : Taken ℕ). u .rest) g in
+          (rw (c, a, b) at y) ∙ shift met (v .val) (run one f (met + nodes (v .val)) (v .next) (v .rest))
+      go (refused k p) z y = absurd (refused-got (sym z))
+
+pub step-in : (at end x m : ℕ) (r : Step) → StepInside at end r → r ≡ Step.Past x m → (at < x) × (x ≤ end)
+step-in at end x m r h w = subst (StepInside at end) w h
+
+-- ---- the whole
+
+module _ (s : List ℕ) (bytes depth most : ℕ) where
+  pub all-long : bytes < length s → refused 1 0 ≡ nodeCount (firstPass bytes depth most s)
+  unfolding firstPass guard
+  all-long h = rw (lt-leb _ _ h) refl
+
+  inner : Answer (Taken Node) → Answer Node
+  inner R = bind R λ w. guard (eqb (length (w .rest)) 0) 7 (w .next) (got (w .val))
+
+  unrolled : length s ≤ bytes → firstPass bytes depth most s ≡ inner (walkElement most depth 0 0 (slice 0 (length s) s))
+  unfolding firstPass exactly guard inner
+  unrolled h = rw (le-leb _ _ h, take-length) refl
+
+  module _ (r : Step) (h : length s ≤ bytes) (e : ofStep s (length s) r ≡ counted 0 (walkElement most depth 0 0 (slice 0 (length s) s))) where
+    pub all-no : (k p : ℕ) → r ≡ Step.Refused k p → refused k p ≡ nodeCount (firstPass bytes depth most s)
+    unfolding inner bind
+    all-no k p q = rw (unrolled h) (go (walkElement most depth 0 0 (slice 0 (length s) s)) (rw q at e))
+      where
+        go : (R : Answer (Taken Node)) → refused k p ≡ counted 0 R → refused k p ≡ nodeCount (inner R)
+        go (got v) z = absurd (refused-got z)
+        go (refused k₂ p₂) z = refused-as z
+
+    pub all-ok : (x n : ℕ) → r ≡ Step.Past x n → x ≡ length s → got n ≡ nodeCount (firstPass bytes depth most s)
+    unfolding inner bind guard
+    all-ok x n q o = rw (unrolled h) (go (walkElement most depth 0 0 (slice 0 (length s) s)) (rw q at e))
+      where
+        go : (R : Answer (Taken Node)) → got (taken n x (slice x (length s) s)) ≡ counted 0 R → got n ≡ nodeCount (inner R)
+        go (got v) z =
+            let g = got-inj z in
+            let c : length (v .rest) ≡ 0 = sym (ap (λ (u : Taken ℕ). length (u .rest)) g) ∙ length-slice x (length s) s (le-refl _) ∙ omega arith in
+            rw (eq-eqb _ _ c) (ap got (ap (λ (u : Taken ℕ). u .val) g ∙ zero-add _))
+        go (refused k p) z = absurd (refused-got (sym z))
+
+    pub all-spare : (x n : ℕ) → StepInside 0 (length s) r → r ≡ Step.Past x n → (x ≡ length s → ⊥) → refused 7 x ≡ nodeCount (firstPass bytes depth most s)
+    unfolding inner bind guard
+    all-spare x n i q o = rw (unrolled h) (go (walkElement most depth 0 0 (slice 0 (length s) s)) (rw q at e))
+      where
+        j : (0 < x) × (x ≤ length s)
+        j = subst (StepInside 0 (length s)) q i
+
+        go : (R : Answer (Taken Node)) → got (taken n x (slice x (length s) s)) ≡ counted 0 R → refused 7 x ≡ nodeCount (inner R)
+        go (got v) z =
+            let g = got-inj z in
+            let c : length (v .rest) ≡ length s - x = sym (ap (λ (u : Taken ℕ). length (u .rest)) g) ∙ length-slice x (length s) s (le-refl _) in
+            rw (ne-eqb (length (v .rest)) 0 (λ y. o (omega (arith, j)))) (ap (refused 7) (ap (λ (u : Taken ℕ). u .next) g))
+        go (refused k p) z = absurd (refused-got (sym z))

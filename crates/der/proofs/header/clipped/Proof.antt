@@ -1,0 +1,13 @@
+use borrow.Author.Needs.{needs}
+use Rattle.der.proofs.Headers.{clipped-all}
+use Rattle.der.proofs.header.clipped.Statement.{statement}
+use Rattle.der.proofs.header.clipped.Tie as tie
+
+returns : tie.Need-returns
+returns c = search needs
+
+returns-2 : tie.Need-returns-2
+returns-2 c = (search needs, search clipped-all)
+
+pub clipped-spec : {M : Type 1} → statement M
+clipped-spec = tie.close (tie.spec returns returns-2)

@@ -1,0 +1,187 @@
+// Identifier and length of an element (document 01, "DER as walked"), read at a place up to the holder's end.
+// A refusal inside names the octet at fault; `reported_place` decides what a caller sees.
+use answer::BAD_IDENTIFIER;
+use answer::BAD_LENGTH;
+use answer::RUNS_OUT;
+ghost use mathlib.Core.Path.{_≡_};
+ghost use Prim.Native.Nat.{_≤_};
+ghost use lib.ListN.{length, take};
+ghost use lib.Seq.{slice};
+ghost use Rattle.codec.specs.Header.{readIdentifier, readLength, readHeader, reportedPlace};
+ghost use Rattle.der.specs.Header.{ofIdentifier, ofLength, ofHeader, IdentifierInside, LengthInside, HeaderInside};
+
+// An identifier: the three high bits of its first octet (the lowest of them is bit 6, "holds elements"), its tag
+// number and the next place; or a refusal and the octet at fault.
+pub(crate) enum Identifier {
+    Is {
+        form: u8,
+        number: usize,
+        next: usize,
+    },
+    Refused(u8, usize),
+}
+
+// A length and the next place; or a refusal and the octet at fault.
+pub(crate) enum Length {
+    Is(usize, usize),
+    Refused(u8, usize),
+}
+
+// A header, and where the content begins, which stands whole before the holder's end; or a refusal with its place.
+pub enum Header {
+    Is {
+        form: u8,
+        number: usize,
+        size: usize,
+        body: usize,
+    },
+    Refused(u8, usize),
+}
+
+// Octets are taken one at a time, so that running out before a bad octet is RUNS_OUT.
+fn read_identifier(s: &[u8], at: usize, end: usize) -> Identifier
+    requires { ⌜ end ≤ length (now s) ⌝ }
+    ensures is { λ r. ⌜ ofIdentifier (now (s .entry)) end r ≡ readIdentifier at (slice at end (now (s .entry))) ⌝ }
+    ensures inside { λ r. ⌜ IdentifierInside at end r ⌝ }
+{
+    if end <= at {
+        return Identifier::Refused(RUNS_OUT, at);
+    }
+    let a = s[at];
+    let form = a / 32;
+    let low = a & 31;
+    let p = at + 1;
+    if low != 31 {
+        return Identifier::Is {
+            form,
+            number: low as usize,
+            next: p,
+        };
+    }
+    if end <= p {
+        return Identifier::Refused(RUNS_OUT, p);
+    }
+    let b = s[p];
+    let q = p + 1;
+    if b < 128 {
+        if b < 31 {
+            return Identifier::Refused(BAD_IDENTIFIER, p);
+        }
+        return Identifier::Is {
+            form,
+            number: b as usize,
+            next: q,
+        };
+    }
+    if b <= 128 {
+        return Identifier::Refused(BAD_IDENTIFIER, p);
+    }
+    if end <= q {
+        return Identifier::Refused(RUNS_OUT, q);
+    }
+    let c = s[q];
+    if 128 <= c {
+        return Identifier::Refused(BAD_IDENTIFIER, q);
+    }
+    let high = (b & 0x7f) as usize;
+    Identifier::Is {
+        form,
+        number: high << 7 | c as usize,
+        next: q + 1,
+    }
+}
+
+// A length against the rules is at fault from its first octet on.
+fn read_length(s: &[u8], at: usize, end: usize) -> Length
+    requires { ⌜ end ≤ length (now s) ⌝ }
+    ensures is { λ r. ⌜ ofLength (now (s .entry)) end r ≡ readLength at (slice at end (now (s .entry))) ⌝ }
+    ensures inside { λ r. ⌜ LengthInside at end r ⌝ }
+{
+    if end <= at {
+        return Length::Refused(RUNS_OUT, at);
+    }
+    let a = s[at];
+    let p = at + 1;
+    if a < 128 {
+        return Length::Is(a as usize, p);
+    }
+    if a == 129 {
+        if end <= p {
+            return Length::Refused(RUNS_OUT, p);
+        }
+        let b = s[p];
+        if b < 128 {
+            return Length::Refused(BAD_LENGTH, at);
+        }
+        return Length::Is(b as usize, p + 1);
+    }
+    if a == 130 {
+        if end <= p {
+            return Length::Refused(RUNS_OUT, p);
+        }
+        let b = s[p];
+        if b < 1 {
+            return Length::Refused(BAD_LENGTH, at);
+        }
+        let q = p + 1;
+        if end <= q {
+            return Length::Refused(RUNS_OUT, q);
+        }
+        let c = s[q];
+        return Length::Is((b as usize) << 8 | c as usize, q + 1);
+    }
+    Length::Refused(BAD_LENGTH, at)
+}
+
+// The place that a refusal reports, of an element that starts at start with a fault at the place octet.
+fn reported_place(start: usize, number: u8, octet: usize) -> usize
+    ensures { λ r. ⌜ r ≡ reportedPlace start number octet ⌝ }
+{
+    start
+}
+
+// The header of the element at at, for a holder's end that is known to lie in s.
+pub(crate) fn header_at(s: &[u8], at: usize, end: usize) -> Header
+    requires { ⌜ end ≤ length (now s) ⌝ }
+    ensures is { λ r. ⌜ ofHeader (now (s .entry)) end r ≡ readHeader at (slice at end (now (s .entry))) ⌝ }
+    ensures inside { λ r. ⌜ HeaderInside at end r ⌝ }
+{
+    match read_identifier(s, at, end) {
+        Identifier::Refused(k, octet) => Header::Refused(k, reported_place(at, k, octet)),
+        Identifier::Is { form, number, next } => match read_length(s, next, end) {
+            Length::Refused(k, octet) => Header::Refused(k, reported_place(at, k, octet)),
+            Length::Is(size, body) => {
+                if size <= end - body {
+                    Header::Is {
+                        form,
+                        number,
+                        size,
+                        body,
+                    }
+                } else {
+                    Header::Refused(RUNS_OUT, reported_place(at, RUNS_OUT, body))
+                }
+            }
+        },
+    }
+}
+
+// The holder's end, or that of s where it would lie past it.
+fn clipped(s: &[u8], end: usize) -> usize
+    ensures inside { λ r. ⌜ (r ≤ end) × (r ≤ length (now (s .entry))) ⌝ }
+    ensures same { λ r. ⌜ take r (now (s .entry)) ≡ take end (now (s .entry)) ⌝ }
+{
+    let len = s.len();
+    if end < len {
+        return end;
+    }
+    len
+}
+
+// The header of the element at at, up to its holder's end or that of s, whichever comes first.
+pub fn read_header(s: &[u8], at: usize, end: usize) -> Header
+    ensures is { λ r. ⌜ ofHeader (now (s .entry)) end r ≡ readHeader at (slice at end (now (s .entry))) ⌝ }
+    ensures inside { λ r. ⌜ HeaderInside at end r × HeaderInside at (length (now (s .entry))) r ⌝ }
+{
+    header_at(s, at, clipped(s, end))
+}
