@@ -103,43 +103,65 @@ unfolding bind allNodes
 shift met t (got ts) = ap got (add-assoc _ _ _)
 shift met t (refused k p) = refl
 
-module _ (s : List ℕ) (one : ℕ → ℕ → List ℕ → Answer (Taken Node)) (end at met : ℕ) where
-  pub run-end : at ≡ end → (f : ℕ) → end - at ≤ f → got met ≡ summed met (run one f met at (slice at end s))
-  unfolding allNodes
-  run-end e f h = let z : slice at end s ≡ [] = rw e (slice-empty end s) in rw (z, run-none) (ap got (sym (add-zero met)))
+module _ (s : List ℕ) (one : ℕ → ℕ → List ℕ → Answer (Taken Node)) (end : ℕ) where
+  -- what is left of the run from (p, n) gives what the run from (at, met) gives, whatever fuel that has
+  abbrev pub Left : ℕ → ℕ → ℕ → ℕ → Type 0
+  Left at met p n =
+      (f : ℕ) → end - at ≤ f → (g : ℕ) × (end - p ≤ g) × (summed n (run one g n p (slice p end s)) ≡ summed met (run one f met at (slice at end s)))
 
-  turn : (f : ℕ) → (at ≡ end → ⊥) → at ≤ end → end ≤ length s
+  pub left-all : (at met : ℕ) → Left at met at met
+  left-all at met f l = (f, l, refl)
+
+  turn : (f at met : ℕ) → at < end → end ≤ length s
       → run one (suc f) met at (slice at end s) ≡ bind (one met at (slice at end s)) (λ w. bind (run one f (met + nodes (w .val)) (w .next) (w .rest)) (λ ts. got (and (w .val) ts)))
-  turn f e l fit = run-step one f met at (slice at end s) (omega (arith, length-slice at end s fit))
+  turn f at met l fit = run-step one f met at (slice at end s) (omega (arith, length-slice at end s fit))
 
-  pub run-no : (k p : ℕ) (r : Step) → (at ≡ end → ⊥) → at ≤ end → end ≤ length s → ofStep s end r ≡ counted met (one met at (slice at end s)) → r ≡ Step.Refused k p
-      → (f : ℕ) → end - at ≤ f → refused k p ≡ summed met (run one f met at (slice at end s))
+  refused-turn : (n p k q : ℕ) (r : Step) → p < end → end ≤ length s → ofStep s end r ≡ counted n (one n p (slice p end s)) → r ≡ Step.Refused k q
+      → (g : ℕ) → end - p ≤ g → refused k q ≡ summed n (run one g n p (slice p end s))
   unfolding bind
-  run-no k p r e l fit q w zero h = absurd (e (omega arith))
-  run-no k p r e l fit q w (suc f) h = rw (turn f e l fit) (go (one met at (slice at end s)) (rw w at q))
+  refused-turn n p k q r l fit e w zero h = absurd (omega arith)
+  refused-turn n p k q r l fit e w (suc g) h = rw (turn g p n l fit) (go (one n p (slice p end s)) (rw w at e))
     where
-      go : (R : Answer (Taken Node)) → refused k p ≡ counted met R → refused k p ≡ summed met (bind R (λ w. bind (run one f (met + nodes (w .val)) (w .next) (w .rest)) (λ ts. got (and (w .val) ts))))
+      go : (R : Answer (Taken Node)) → refused k q ≡ counted n R → refused k q ≡ summed n (bind R (λ w. bind (run one g (n + nodes (w .val)) (w .next) (w .rest)) (λ ts. got (and (w .val) ts))))
       go (got v) z = absurd (refused-got z)
-      go (refused k₂ p₂) z = refused-as z
+      go (refused k₂ q₂) z = refused-as z
 
-  pub run-more : (x m : ℕ) (r out : Step) → (at ≡ end → ⊥) → at ≤ end → end ≤ length s → StepInside at end r → ofStep s end r ≡ counted met (one met at (slice at end s)) → r ≡ Step.Past x m
-      → ((g : ℕ) → end - x ≤ g → ofRun out ≡ summed m (run one g m x (slice x end s)))
-      → (f : ℕ) → end - at ≤ f → ofRun out ≡ summed met (run one f met at (slice at end s))
+  past-turn : (n p x m : ℕ) (r : Step) → p < end → end ≤ length s → StepInside p end r → ofStep s end r ≡ counted n (one n p (slice p end s)) → r ≡ Step.Past x m
+      → (g : ℕ) → end - p ≤ g → (g′ : ℕ) × (end - x ≤ g′) × (summed m (run one g′ m x (slice x end s)) ≡ summed n (run one g n p (slice p end s)))
   unfolding bind
-  run-more x m r out e l fit i q w ih zero h = absurd (e (omega arith))
-  run-more x m r out e l fit i q w ih (suc f) h =
-      let j : (at < x) × (x ≤ end) = subst (StepInside at end) w i in
-      rw (turn f e l fit) (go (one met at (slice at end s)) (rw w at q) (ih f (omega arith)))
+  past-turn n p x m r l fit i e w zero h = absurd (omega arith)
+  past-turn n p x m r l fit i e w (suc g) h =
+      let j : (p < x) × (x ≤ end) = subst (StepInside p end) w i in
+      (g, omega arith, rw (turn g p n l fit) (go (one n p (slice p end s)) (rw w at e)))
     where
-      go : (R : Answer (Taken Node)) → got (taken m x (slice x end s)) ≡ counted met R → ofRun out ≡ summed m (run one f m x (slice x end s))
-          → ofRun out ≡ summed met (bind R (λ w. bind (run one f (met + nodes (w .val)) (w .next) (w .rest)) (λ ts. got (and (w .val) ts))))
-      go (got v) z y =
-          let g = got-inj z in
-          let a : m ≡ met + nodes (v .val) = ap (λ (u : Taken ℕ). u .val) g in
-          let b : x ≡ v .next = ap (λ (u : Taken ℕ). u .next) g in
-          let c : slice x end s ≡ v .rest = ap (λ (u : Taken ℕ). u .rest) g in
-          (rw (c, a, b) at y) ∙ shift met (v .val) (run one f (met + nodes (v .val)) (v .next) (v .rest))
-      go (refused k p) z y = absurd (refused-got (sym z))
+      go : (R : Answer (Taken Node)) → got (taken m x (slice x end s)) ≡ counted n R
+          → summed m (run one g m x (slice x end s)) ≡ summed n (bind R (λ w. bind (run one g (n + nodes (w .val)) (w .next) (w .rest)) (λ ts. got (and (w .val) ts))))
+      go (got v) z =
+          let q = got-inj z in
+          let a : m ≡ n + nodes (v .val) = ap (λ (u : Taken ℕ). u .val) q in
+          let b : x ≡ v .next = ap (λ (u : Taken ℕ). u .next) q in
+          let c : slice x end s ≡ v .rest = ap (λ (u : Taken ℕ). u .rest) q in
+          rw (c, a, b) (shift n (v .val) (run one g (n + nodes (v .val)) (v .next) (v .rest)))
+      go (refused k p) z = absurd (refused-got (sym z))
+
+  -- the run's answer where an element is refused, where one more is past, and at the end
+  pub run-no : (at met n p k q : ℕ) (r : Step) → Left at met p n → p < end → end ≤ length s → ofStep s end r ≡ counted n (one n p (slice p end s)) → r ≡ Step.Refused k q
+      → (f : ℕ) → end - at ≤ f → refused k q ≡ summed met (run one f met at (slice at end s))
+  run-no at met n p k q r z l fit e w f h = let y = z f h in refused-turn n p k q r l fit e w (y .0) (y .1) ∙ y .2
+
+  pub run-more : (at met n p x m : ℕ) (r : Step) → Left at met p n → p < end → end ≤ length s → StepInside p end r → ofStep s end r ≡ counted n (one n p (slice p end s)) → r ≡ Step.Past x m → Left at met x m
+  run-more at met n p x m r z l fit i e w f h =
+      let y = z f h in
+      let t = past-turn n p x m r l fit i e w (y .0) (y .1) in
+      (t .0, t .1, t .2 ∙ y .2)
+
+  pub run-end : (at met n p : ℕ) → Left at met p n → p ≤ end → end ≤ p → (f : ℕ) → end - at ≤ f → got n ≡ summed met (run one f met at (slice at end s))
+  unfolding allNodes
+  run-end at met n p z l l′ f h =
+      let y = z f h in
+      let q : p ≡ end = omega arith in
+      let o : slice p end s ≡ [] = rw q (slice-empty end s) in
+      ap got (sym (add-zero n)) ∙ (rw (o, run-none) at (y .2))
 
 pub step-in : (at end x m : ℕ) (r : Step) → StepInside at end r → r ≡ Step.Past x m → (at < x) × (x ≤ end)
 step-in at end x m r h w = subst (StepInside at end) w h

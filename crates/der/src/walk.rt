@@ -81,13 +81,20 @@ fn walk_run(s: &[u8], at: usize, end: usize, depth: usize, met: usize, most: usi
     ensures is { λ r. ⌜ ((f : ℕ) → end - at ≤ f → ofRun r ≡ summed met (run (walkElement most depth) f met at (slice at end (now (s .entry))))) ⌝ }
     ensures inside { λ r. ⌜ StepAt end r ⌝ }
 {
-    if at == end {
-        return Step::Past(end, met);
+    let mut place = at;
+    let mut n = met;
+    while place < end {
+        match walk_element(s, place, end, depth, n, most) {
+            Step::Refused(k, fault) => {
+                return Step::Refused(k, fault);
+            }
+            Step::Past(next, m) => {
+                place = next;
+                n = m;
+            }
+        }
     }
-    match walk_element(s, at, end, depth, met, most) {
-        Step::Refused(k, place) => Step::Refused(k, place),
-        Step::Past(next, m) => walk_run(s, next, end, depth, m, most),
-    }
+    Step::Past(end, n)
 }
 
 // Walks the one element that s is. Any bytes and any limits get an answer, and nothing is changed.

@@ -1,8 +1,9 @@
 use borrow.Author.Needs.{needs}
-use Prim.Native.Nat.{ℕ, _+_, _-_, _*_, _<_}
+use Prim.Native.Nat.{ℕ, _+_, _-_, _*_, _<_, _≤_}
 use native.Mathlib.Omega.{arith}
 use mathlib.Core.Path.{refl}
-use Rattle.der.proofs.Elements.{element-deep, element-many, element-no, element-flat, element-run, header-in, inside-run, run-end, run-no, run-more, step-in}
+use Rattle.codec.specs.Tree.{walkElement}
+use Rattle.der.proofs.Elements.{element-deep, element-many, element-no, element-flat, element-run, header-in, inside-run, Left, left-all, run-no, run-more, run-end, step-in}
 use borrow.Fn.Kinds.{In}
 use borrow.Fn.PlainCycle.{Measures, is, falls, and}
 use Rattle.der.proofs.walk.walk_element.Reads as walk-element
@@ -157,68 +158,74 @@ walk-element-returns-5 : (t : ℕ) → walk-element-lts.Need-returns-5 (
 ) (walk-element-at t) walk-element.Post
 walk-element-returns-5 t c = (search element-run, search inside-run)
 
--- src/walk.rt:85:9
-walk-run-returns : (t : ℕ) → walk-run-lts.Need-returns (
+abbrev walk-run-Inv-loop : walk-run-lts.InvT-loop
+walk-run-Inv-loop s at end depth met most place₀ n₀ place n =
+    (at ≤ place) × (place ≤ end) × Left s (walkElement most depth) end at met place n
+
+abbrev walk-run-μ-loop : walk-run-lts.MeasureT-loop
+walk-run-μ-loop s at end depth met most place₀ n₀ place n = end - place
+
+-- src/walk.rt:86:5
+walk-run-loop-holds : (t : ℕ) → walk-run-lts.Need-loop-holds (
   walk-element-below t,
   walk-element.Post,
-  walk-run-below t,
-  walk-run.Post,
-) (walk-run-at t) walk-run.Post
-walk-run-returns t c = (search run-end, refl)
+) (walk-run-at t) walk-run.Post walk-run-Inv-loop walk-run-μ-loop
+walk-run-loop-holds t c = (search needs, search needs, search left-all)
 
--- src/walk.rt:87:11
+-- src/walk.rt:87:15
 walk-run-walk-element-requires : (t : ℕ) → walk-run-lts.Need-walk-element-requires (
   walk-element-below t,
   walk-element.Post,
-  walk-run-below t,
-  walk-run.Post,
-) (walk-run-at t) walk-run.Post
+) (walk-run-at t) walk-run.Post walk-run-Inv-loop walk-run-μ-loop
 walk-run-walk-element-requires t c κs = omega arith
 
--- src/walk.rt:88:23
+-- src/walk.rt:88:27
 walk-run-enum-known-k : (t : ℕ) → walk-run-lts.Need-enum-known-k (
   walk-element-below t,
   walk-element.Post,
-  walk-run-below t,
-  walk-run.Post,
-) (walk-run-at t) walk-run.Post
+) (walk-run-at t) walk-run.Post walk-run-Inv-loop walk-run-μ-loop
 walk-run-enum-known-k t c = search needs
 
--- src/walk.rt:89:20
+-- src/walk.rt:89:17
+walk-run-returns :
+    (t : ℕ) →
+    walk-run-lts.Need-returns
+    (walk-element-below t, walk-element.Post)
+    (walk-run-at t)
+    walk-run.Post
+    walk-run-Inv-loop
+    walk-run-μ-loop
+walk-run-returns t c = (search run-no, tt)
+
+-- src/walk.rt:91:24
 walk-run-enum-known-next : (t : ℕ) → walk-run-lts.Need-enum-known-next (
   walk-element-below t,
   walk-element.Post,
-  walk-run-below t,
-  walk-run.Post,
-) (walk-run-at t) walk-run.Post
+) (walk-run-at t) walk-run.Post walk-run-Inv-loop walk-run-μ-loop
 walk-run-enum-known-next t c = search needs
 
--- src/walk.rt:89:32
-walk-run-walk-run-requires : (t : ℕ) → walk-run-lts.Need-walk-run-requires (
+-- src/walk.rt:86:5
+walk-run-loop-less : (t : ℕ) → walk-run-lts.Need-loop-less (
   walk-element-below t,
   walk-element.Post,
-  walk-run-below t,
-  walk-run.Post,
-) (walk-run-at t) walk-run.Post
-walk-run-walk-run-requires t c κs = omega (arith, step-in (c .before .before .before .before .before .before .args .at) (c .before .before .before .before .before .before .args .end) _ _ _ (c .before .before .before .walk-element .ensures .1) (c .before .next .given .1))
+) (walk-run-at t) walk-run.Post walk-run-Inv-loop walk-run-μ-loop
+walk-run-loop-less t c = omega (arith, step-in (c .before .before .before .before .before .loop .place) (c .before .before .before .before .before .before .before .args .end) _ _ _ (c .before .before .before .walk-element .ensures .1) (c .before .next .given .1))
+
+-- src/walk.rt:86:5
+walk-run-loop-again : (t : ℕ) → walk-run-lts.Need-loop-again (
+  walk-element-below t,
+  walk-element.Post,
+) (walk-run-at t) walk-run.Post walk-run-Inv-loop walk-run-μ-loop
+walk-run-loop-again t c =
+    let j = step-in (c .before .before .before .before .before .loop .place) (c .before .before .before .before .before .before .before .args .end) _ _ _ (c .before .before .before .walk-element .ensures .1) (c .before .next .given .1) in
+    (omega arith, j .1, search run-more)
 
 -- src/walk.rt:79:1
 walk-run-returns-2 : (t : ℕ) → walk-run-lts.Need-returns-2 (
   walk-element-below t,
   walk-element.Post,
-  walk-run-below t,
-  walk-run.Post,
-) (walk-run-at t) walk-run.Post
-walk-run-returns-2 t c = (search run-no, tt)
-
--- src/walk.rt:79:1
-walk-run-returns-3 : (t : ℕ) → walk-run-lts.Need-returns-3 (
-  walk-element-below t,
-  walk-element.Post,
-  walk-run-below t,
-  walk-run.Post,
-) (walk-run-at t) walk-run.Post
-walk-run-returns-3 t c = (search run-more, c .walk-run .ensures .1)
+) (walk-run-at t) walk-run.Post walk-run-Inv-loop walk-run-μ-loop
+walk-run-returns-2 t c = (search run-end, refl)
 
 pub +walk-element+walk-run-spec : {M : Type 1} → statement M
 +walk-element+walk-run-spec = close μ-walk-element μ-walk-run (λ t. walk-element-lts.spec (
@@ -243,13 +250,16 @@ pub +walk-element+walk-run-spec : {M : Type 1} → statement M
     (walk-element-returns-4 t)
     (walk-element-returns-5 t))
     λ t. walk-run-lts.spec
-    (walk-element-below t, walk-element.Post, walk-run-below t, walk-run.Post)
+    (walk-element-below t, walk-element.Post)
     (walk-run-at t)
     walk-run.Post
-    (walk-run-returns t)
+    walk-run-Inv-loop
+    walk-run-μ-loop
+    (walk-run-loop-holds t)
     (walk-run-walk-element-requires t)
     (walk-run-enum-known-k t)
+    (walk-run-returns t)
     (walk-run-enum-known-next t)
-    (walk-run-walk-run-requires t)
+    (walk-run-loop-less t)
+    (walk-run-loop-again t)
     (walk-run-returns-2 t)
-    (walk-run-returns-3 t)
