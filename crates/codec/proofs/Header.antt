@@ -24,15 +24,15 @@ same-identifier a b f n e q = rw (e, q)
 
 -- ---- the identifier
 
-one-octet : (i : Identifier) → i .number < 31 → identifierOctets i ≡ (i .form * 32 + i .number) ∷ []
+pub one-octet : (i : Identifier) → i .number < 31 → identifierOctets i ≡ (i .form * 32 + i .number) ∷ []
 unfolding identifierOctets
 one-octet i h = pick-yes _ _ _ (lt→ltb (i .number) 31 h)
 
-two-octets : (i : Identifier) → 31 ≤ i .number → i .number < 128 → identifierOctets i ≡ (i .form * 32 + 31) ∷ i .number ∷ []
+pub two-octets : (i : Identifier) → 31 ≤ i .number → i .number < 128 → identifierOctets i ≡ (i .form * 32 + 31) ∷ i .number ∷ []
 unfolding identifierOctets
 two-octets i l h = pick-no _ _ _ (le→nltb (i .number) 31 l) ∙ pick-yes _ _ _ (lt→ltb (i .number) 128 h)
 
-three-octets : (i : Identifier) → 128 ≤ i .number → identifierOctets i ≡ (i .form * 32 + 31) ∷ (128 + i .number / 128) ∷ i .number % 128 ∷ []
+pub three-octets : (i : Identifier) → 128 ≤ i .number → identifierOctets i ≡ (i .form * 32 + 31) ∷ (128 + i .number / 128) ∷ i .number % 128 ∷ []
 unfolding identifierOctets
 three-octets i l = pick-no _ _ _ (le→nltb (i .number) 31 (omega arith)) ∙ pick-no _ _ _ (le→nltb (i .number) 128 l)
 

@@ -1,3 +1,5 @@
 pub mod Bits
 pub mod Headers
 pub mod Elements
+pub mod Sizes
+pub mod Writes

@@ -2,3 +2,4 @@
 // Nothing here allocates, and no public function asks anything of its caller.
 pub mod header;
 pub mod walk;
+pub mod write;

@@ -1,0 +1,13 @@
+use Rattle.der.proofs.Writes.{no-room, some-room}
+use borrow.Author.Needs.{needs}
+use Rattle.der.proofs.write.has_room.Statement.{statement}
+use Rattle.der.proofs.write.has_room.Tie as tie
+
+returns : tie.Need-returns
+returns c = search no-room
+
+returns-2 : tie.Need-returns-2
+returns-2 c = search some-room
+
+pub has-room-spec : {M : Type 1} → statement M
+has-room-spec = tie.close (tie.spec returns returns-2)

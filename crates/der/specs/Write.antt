@@ -1,0 +1,29 @@
+-- What the writer's leaves answer and leave.
+use mathlib.Core.List.{List}
+use Prim.Native.Nat.{ℕ, _+_}
+use lib.ListN.{length}
+use lib.Dec.{leb}
+use Rattle.answer.specs.Answer.{Answer, got, refused, guard}
+use Rattle.answer.specs.Refusal.{badIdentifier, badLength, outputShort}
+use Rattle.codec.specs.Shortest.{integerOctets}
+use Rattle.codec.specs.Header.{Identifier, identifier, identifierGood, lengthGood, headerOctets, elementOctets}
+use Rattle.der.specs.declared.write.Written.{Written}
+
+abbrev pub ofWritten : Written → Answer ℕ
+ofWritten (Written.Next p) = got p
+ofWritten (Written.Refused k p) = refused k p
+
+-- the place after xs at p; "output shorter" (21, place 0) where they do not fit
+unfoldable pub roomFor : List ℕ → ℕ → List ℕ → Answer ℕ
+roomFor out p xs = guard (leb (p + length xs) (length out)) outputShort 0 (got (p + length xs))
+
+-- what a reader would refuse is not written: 3 or 4 at its place
+unfoldable pub headerWritten : List ℕ → ℕ → Identifier → ℕ → Answer ℕ
+headerWritten out p i n =
+    guard (identifierGood i) badIdentifier p
+    (guard (lengthGood n) badLength p
+    (roomFor out p (headerOctets i n)))
+
+-- INTEGER: identifier 02
+unfoldable pub integerElement : ℕ → List ℕ
+integerElement n = elementOctets (identifier 0 2) (integerOctets n)
