@@ -31,22 +31,17 @@ static size_t element(uint8_t *out, uint8_t identifier, const uint8_t *content, 
     return at + len;
 }
 
-// A SEQUENCE of count elements [n] of tag numbers from 400, each around an INTEGER, and an OCTET STRING of what is left.
+// A SEQUENCE of count fields [400] and up, each around an INTEGER, and an OCTET STRING that fills it up to total bytes.
 static size_t sample(uint8_t *out, size_t total, size_t count) {
     static uint8_t inner[16384], rest[16384];
-    size_t at = 0;
+    size_t at = 0, n = 0;
     for (size_t i = 0; i < count; i++) {
         const uint8_t field[] = {0xBF, 0x83, (uint8_t)(0x10 + i % 0x60), 0x04, 0x02, 0x02, 0x01, (uint8_t)i};
         memcpy(inner + at, field, sizeof field);
         at += sizeof field;
     }
-    size_t spare = total > at + 8 ? total - at - 8 : 0;
     memset(rest, 7, sizeof rest);
-    at += element(inner + at, 0x04, rest, spare);
-    size_t n = element(out, 0x30, inner, at);
-    while (n < total) {
-        n = element(out, 0x30, inner, (at -= spare ? 0 : 0, at += 1, at));
-    }
+    for (size_t fill = 0; n < total; fill++) n = element(out, 0x30, inner, at + element(inner + at, 0x04, rest, fill));
     return n;
 }
 

@@ -137,7 +137,8 @@ module _ (bytes depth most : ℕ) (bs : List ℕ) (t : Node) where
   pub first-pass-sound : Octets bs → firstPass bytes depth most bs ≡ got t → Within bytes depth most bs t
   unfolding firstPass exactly
   first-pass-sound o e =
-      guard-case _ _ _ _ e λ l e₁.
+      guard-case _ _ _ _ e λ l e₀.
+      guard-case _ _ _ _ e₀ λ some e₁.
       bind-case _ _ e₁ λ w ew e₂.
       guard-case _ _ _ _ e₂ λ z e₃.
       let s = element-sound most depth 0 0 bs w o ew in
@@ -153,7 +154,9 @@ module _ (bytes depth most : ℕ) (bs : List ℕ) (t : Node) where
   unfolding firstPass exactly
   first-pass-back d =
       let b = element-back most depth 0 0 t [] (d .der) (omega (arith, d .few)) in
+      let some : 0 < length bs = rw (← d .whole) (node-long t) in
       guard-yes _ _ _ _ (le→leb (length bs) bytes (d .short))
+      ∙ guard-yes _ _ _ _ (lt→ltb 0 (length bs) some)
       ∙ bind-got _ _ _ (rw (append-nil, d .whole) at b)
       ∙ guard-yes _ _ _ _ tt
 

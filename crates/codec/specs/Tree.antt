@@ -6,7 +6,7 @@ use Prim.Native.Nat.{ℕ, zero, suc, _+_}
 use lib.ListN.{length, take, drop}
 use lib.Dec.{T, ltb, leb}
 use Rattle.answer.specs.Answer.{Answer, got, refused, guard, bind, pick}
-use Rattle.answer.specs.Refusal.{tooLong, tooDeep, tooManyElements, spareBytes}
+use Rattle.answer.specs.Refusal.{tooLong, runsOut, tooDeep, tooManyElements, spareBytes}
 use Rattle.codec.specs.Octets.{Taken, taken}
 use Rattle.codec.specs.Header.{Identifier, holds, readHeader, identifierGood, lengthGood, headerOctets, elementOctets}
 use Rattle.codec.specs.Element.{exactly}
@@ -50,11 +50,12 @@ walkElement most (suc depth) met p bs =
     got (taken (node p (h .val .id) (take (h .val .size) (h .rest)) ts) (h .next + h .val .size) (drop (h .val .size) (h .rest))))
 
 -- "Order: 1; then the whole first pass in byte order; then 7": the tree that the bytes are, within limits of bytes,
--- depth and elements
+-- depth and elements. Where no octet stands, an element "is missing at the top", whatever the limits
 unfoldable pub firstPass : ℕ → ℕ → ℕ → List ℕ → Answer Node
 firstPass bytes depth most bs =
     guard (leb (length bs) bytes) tooLong 0
-    (exactly spareBytes (walkElement most depth 0) 0 bs)
+    (guard (ltb 0 (length bs)) runsOut 0
+    (exactly spareBytes (walkElement most depth 0) 0 bs))
 
 -- ---- the same, said of the tree and not of a reader: proofs/Tree.antt shows that the first pass gives a tree exactly
 -- when the bytes are that tree's DER, within the limits

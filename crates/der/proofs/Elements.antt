@@ -173,17 +173,21 @@ module _ (s : List ℕ) (bytes depth most : ℕ) where
   unfolding firstPass guard
   all-long h = rw (lt-leb _ _ h) refl
 
+  pub all-missing : length s ≤ bytes → length s ≡ 0 → refused 2 0 ≡ nodeCount (firstPass bytes depth most s)
+  unfolding firstPass guard
+  all-missing h z = rw (le-leb _ _ h, z) refl
+
   inner : Answer (Taken Node) → Answer Node
   inner R = bind R λ w. guard (eqb (length (w .rest)) 0) 7 (w .next) (got (w .val))
 
-  unrolled : length s ≤ bytes → firstPass bytes depth most s ≡ inner (walkElement most depth 0 0 (slice 0 (length s) s))
+  unrolled : length s ≤ bytes → (length s ≡ 0 → ⊥) → firstPass bytes depth most s ≡ inner (walkElement most depth 0 0 (slice 0 (length s) s))
   unfolding firstPass exactly guard inner
-  unrolled h = rw (le-leb _ _ h, take-length) refl
+  unrolled h z = rw (le-leb _ _ h, lt-ltb 0 (length s) (omega arith), take-length) refl
 
-  module _ (r : Step) (h : length s ≤ bytes) (e : ofStep s (length s) r ≡ counted 0 (walkElement most depth 0 0 (slice 0 (length s) s))) where
+  module _ (r : Step) (h : length s ≤ bytes) (some : length s ≡ 0 → ⊥) (e : ofStep s (length s) r ≡ counted 0 (walkElement most depth 0 0 (slice 0 (length s) s))) where
     pub all-no : (k p : ℕ) → r ≡ Step.Refused k p → refused k p ≡ nodeCount (firstPass bytes depth most s)
     unfolding inner bind
-    all-no k p q = rw (unrolled h) (go (walkElement most depth 0 0 (slice 0 (length s) s)) (rw q at e))
+    all-no k p q = rw (unrolled h some) (go (walkElement most depth 0 0 (slice 0 (length s) s)) (rw q at e))
       where
         go : (R : Answer (Taken Node)) → refused k p ≡ counted 0 R → refused k p ≡ nodeCount (inner R)
         go (got v) z = absurd (refused-got z)
@@ -191,7 +195,7 @@ module _ (s : List ℕ) (bytes depth most : ℕ) where
 
     pub all-ok : (x n : ℕ) → r ≡ Step.Past x n → x ≡ length s → got n ≡ nodeCount (firstPass bytes depth most s)
     unfolding inner bind guard
-    all-ok x n q o = rw (unrolled h) (go (walkElement most depth 0 0 (slice 0 (length s) s)) (rw q at e))
+    all-ok x n q o = rw (unrolled h some) (go (walkElement most depth 0 0 (slice 0 (length s) s)) (rw q at e))
       where
         go : (R : Answer (Taken Node)) → got (taken n x (slice x (length s) s)) ≡ counted 0 R → got n ≡ nodeCount (inner R)
         go (got v) z =
@@ -202,7 +206,7 @@ module _ (s : List ℕ) (bytes depth most : ℕ) where
 
     pub all-spare : (x n : ℕ) → StepInside 0 (length s) r → r ≡ Step.Past x n → (x ≡ length s → ⊥) → refused 7 x ≡ nodeCount (firstPass bytes depth most s)
     unfolding inner bind guard
-    all-spare x n i q o = rw (unrolled h) (go (walkElement most depth 0 0 (slice 0 (length s) s)) (rw q at e))
+    all-spare x n i q o = rw (unrolled h some) (go (walkElement most depth 0 0 (slice 0 (length s) s)) (rw q at e))
       where
         j : (0 < x) × (x ≤ length s)
         j = subst (StepInside 0 (length s)) q i

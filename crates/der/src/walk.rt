@@ -2,6 +2,7 @@
 // element, another the run of elements inside it; they call each other.
 use crate::header::Header;
 use crate::header::header_at;
+use answer::RUNS_OUT;
 use answer::SPARE_BYTES;
 use answer::TOO_DEEP;
 use answer::TOO_LONG;
@@ -107,6 +108,9 @@ pub fn walk(s: &[u8], limits: Limits) -> Walked
     let end = s.len();
     if bytes < end {
         return Walked::Refused(TOO_LONG, 0);
+    }
+    if end == 0 {
+        return Walked::Refused(RUNS_OUT, 0);
     }
     match walk_element(s, 0, end, depth, 0, most) {
         Step::Refused(k, place) => Walked::Refused(k, place),

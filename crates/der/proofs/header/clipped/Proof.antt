@@ -1,3 +1,4 @@
+-- `clipped` meets its contract: past the end of the bytes, all of them are taken. Assumes nothing.
 use borrow.Author.Needs.{needs}
 use Rattle.der.proofs.Headers.{clipped-all}
 use Rattle.der.proofs.header.clipped.Statement.{statement}

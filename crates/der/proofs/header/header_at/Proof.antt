@@ -1,3 +1,4 @@
+-- `header_at` meets its contract: identifier, length and fit, one law of `Headers` for each answer. Assumes nothing.
 use borrow.Author.Needs.{needs}
 use native.Mathlib.Omega.{arith}
 use Prim.Native.Nat.{_<_, _≤_}
@@ -6,11 +7,6 @@ use Rattle.der.specs.Header.{IdentifierInside, LengthInside}
 use Rattle.der.proofs.Headers.{no-identifier, no-length, no-fit, fits-header}
 use Rattle.der.proofs.header.header_at.Statement.{statement}
 use Rattle.der.proofs.header.header_at.Tie as tie
-use Rattle.der.proofs.header.header_at.Reads as reads
-use Rattle.der.proofs.header.header_at.Lts as lts
-use Rattle.der.proofs.header.read_identifier.Reads as read-identifier-reads
-use Rattle.der.proofs.header.read_length.Reads as read-length-reads
-use Rattle.der.proofs.header.reported_place.Reads as reported-place-reads
 
 -- the places that the two readers ensure, as the arms of the matches know them
 identifier-in : (c : tie.After-form) → let a = c .before .before .before .before .args in
@@ -21,59 +17,45 @@ length-in : (c : tie.After-size) → let f = c .before .before .before .before i
     (f .form .given .0 .1 .1 .0 < c .size .given .0 .1 .0) × (c .size .given .0 .1 .0 ≤ a .end)
 length-in c = subst (LengthInside _ _) (c .size .given .1) (c .before .before .read-length .ensures .1)
 
--- src/header.rt:149:11
 read-identifier-requires : tie.Need-read-identifier-requires
 read-identifier-requires c κs = search needs
 
--- src/header.rt:150:29
 enum-known-k : tie.Need-enum-known-k
 enum-known-k c = search needs
 
--- src/header.rt:150:61
 reported-place-requires : tie.Need-reported-place-requires
 reported-place-requires c κs = search needs
 
--- src/header.rt:151:26
 enum-known-form : tie.Need-enum-known-form
 enum-known-form c = search needs
 
--- src/header.rt:151:56
 read-length-requires : tie.Need-read-length-requires
 read-length-requires c κs = search needs
 
--- src/header.rt:152:29
 enum-known-k-2 : tie.Need-enum-known-k-2
 enum-known-k-2 c = search needs
 
--- src/header.rt:152:61
 reported-place-requires-2 : tie.Need-reported-place-requires-2
 reported-place-requires-2 c κs = search needs
 
--- src/header.rt:153:24
 enum-known-size : tie.Need-enum-known-size
 enum-known-size c = search needs
 
--- src/header.rt:154:28
 sub-if1 : tie.Need-sub-if1
 sub-if1 c = length-in (c .before) .1
 
--- src/header.rt:162:47
 reported-place-requires-3 : tie.Need-reported-place-requires-3
 reported-place-requires-3 c κs = search needs
 
--- src/header.rt:144:1
 returns : tie.Need-returns
 returns c = (search no-identifier, search needs)
 
--- src/header.rt:144:1
 returns-2 : tie.Need-returns-2
 returns-2 c = (search no-length, search needs)
 
--- src/header.rt:144:1
 returns-3 : tie.Need-returns-3
 returns-3 c = (search fits-header, omega (arith, identifier-in (c .before .before .before .before .before .before), length-in (c .before .before)))
 
--- src/header.rt:144:1
 returns-4 : tie.Need-returns-4
 returns-4 c = (search no-fit, search needs)
 

@@ -1,4 +1,4 @@
-use native.Mathlib.Omega.{arith}
+-- `read_identifier` meets its contract: each return follows the definition's tests, octet by octet (`tests`). Assumes nothing.
 use Rattle.answer.specs.Answer.{pick, guard}
 use Rattle.codec.specs.Header.{readIdentifier}
 use Rattle.der.proofs.Bits.{tests, fits5, fits7}
@@ -6,90 +6,69 @@ use Rattle.der.proofs.Headers.{identifier-high}
 use borrow.Author.Needs.{needs}
 use Rattle.der.proofs.header.read_identifier.Statement.{statement}
 use Rattle.der.proofs.header.read_identifier.Tie as tie
-use Rattle.der.proofs.header.read_identifier.Reads as reads
-use Rattle.der.proofs.header.read_identifier.Lts as lts
 
--- src/header.rt:48:9
 returns : tie.Need-returns
 unfolding readIdentifier pick guard
 returns c = (search tests, search needs)
 
--- src/header.rt:50:13
 shared-slice-read-a : tie.Need-shared-slice-read-a
 shared-slice-read-a c = search needs
 
--- src/header.rt:53:13
 add-p : tie.Need-add-p
 add-p c = search needs
 
--- src/header.rt:57:21
 cast-t15 : tie.Need-cast-t15
 cast-t15 c = search (needs, fits5)
 
--- src/header.rt:55:9
 returns-2 : tie.Need-returns-2
 unfolding readIdentifier pick guard
 returns-2 c = (search tests, search needs)
 
--- src/header.rt:62:9
 returns-3 : tie.Need-returns-3
 unfolding readIdentifier pick guard
 returns-3 c = (search tests, search needs)
 
--- src/header.rt:64:13
 shared-slice-read-b : tie.Need-shared-slice-read-b
 shared-slice-read-b c = search needs
 
--- src/header.rt:65:13
 add-q : tie.Need-add-q
 add-q c = search needs
 
--- src/header.rt:68:13
 returns-4 : tie.Need-returns-4
 unfolding readIdentifier pick guard
 returns-4 c = (search tests, search needs)
 
--- src/header.rt:72:21
 cast-t18 : tie.Need-cast-t18
 cast-t18 c = search needs
 
--- src/header.rt:70:9
 returns-5 : tie.Need-returns-5
 unfolding readIdentifier pick guard
 returns-5 c = (search tests, search needs)
 
--- src/header.rt:77:9
 returns-6 : tie.Need-returns-6
 unfolding readIdentifier pick guard
 returns-6 c = (search tests, search needs)
 
--- src/header.rt:80:9
 returns-7 : tie.Need-returns-7
 unfolding readIdentifier pick guard
 returns-7 c = (search tests, search needs)
 
--- src/header.rt:82:13
 shared-slice-read-c : tie.Need-shared-slice-read-c
 shared-slice-read-c c = search needs
 
--- src/header.rt:84:9
 returns-8 : tie.Need-returns-8
 unfolding readIdentifier pick guard
 returns-8 c = (search tests, search needs)
 
--- src/header.rt:86:16
 cast-high : tie.Need-cast-high
 cast-high c = search (needs, fits7)
 
--- src/header.rt:89:29
 cast-t21 : tie.Need-cast-t21
 cast-t21 c = search needs
 
--- src/header.rt:90:15
 add-t23 : tie.Need-add-t23
 add-t23 c = search needs
 
--- src/header.rt:42:1
 returns-9 : tie.Need-returns-9
 returns-9 c = (search identifier-high, search needs)
 

@@ -1,3 +1,4 @@
+-- `read_length` meets its contract: each return follows the definition's tests, octet by octet (`tests`). Assumes nothing.
 use native.Mathlib.Omega.{arith}
 use Prim.Native.Nat.{_+_}
 use Rattle.answer.specs.Answer.{pick, guard}
@@ -7,102 +8,78 @@ use Rattle.der.proofs.Headers.{length-high}
 use borrow.Author.Needs.{needs}
 use Rattle.der.proofs.header.read_length.Statement.{statement}
 use Rattle.der.proofs.header.read_length.Tie as tie
-use Rattle.der.proofs.header.read_length.Reads as reads
-use Rattle.der.proofs.header.read_length.Lts as lts
 
--- src/header.rt:101:9
 returns : tie.Need-returns
 unfolding readLength pick guard
 returns c = (search tests, search needs)
 
--- src/header.rt:103:13
 shared-slice-read-a : tie.Need-shared-slice-read-a
 shared-slice-read-a c = search needs
 
--- src/header.rt:104:13
 add-p : tie.Need-add-p
 add-p c = search needs
 
--- src/header.rt:106:27
 cast-t13 : tie.Need-cast-t13
 cast-t13 c = search needs
 
--- src/header.rt:106:9
 returns-2 : tie.Need-returns-2
 unfolding readLength pick guard
 returns-2 c = (search tests, search needs)
 
--- src/header.rt:110:13
 returns-3 : tie.Need-returns-3
 unfolding readLength pick guard
 returns-3 c = (search tests, search needs)
 
--- src/header.rt:112:17
 shared-slice-read-b : tie.Need-shared-slice-read-b
 shared-slice-read-b c = search needs
 
--- src/header.rt:114:13
 returns-4 : tie.Need-returns-4
 unfolding readLength pick guard
 returns-4 c = (search tests, search needs)
 
--- src/header.rt:116:27
 cast-t17 : tie.Need-cast-t17
 cast-t17 c = omega (arith, c .before .shared-slice-known2 .given (c .before .before .before .before .before .before .before .args .at + 1))
 
--- src/header.rt:116:39
 add-t18 : tie.Need-add-t18
 add-t18 c = search needs
 
--- src/header.rt:116:9
 returns-5 : tie.Need-returns-5
 unfolding readLength pick guard
 returns-5 c = (search tests, search needs)
 
--- src/header.rt:120:13
 returns-6 : tie.Need-returns-6
 unfolding readLength pick guard
 returns-6 c = (search tests, search needs)
 
--- src/header.rt:122:17
 shared-slice-read-b-2 : tie.Need-shared-slice-read-b-2
 shared-slice-read-b-2 c = search needs
 
--- src/header.rt:124:13
 returns-7 : tie.Need-returns-7
 unfolding readLength pick guard
 returns-7 c = (search tests, search needs)
 
--- src/header.rt:126:17
 add-q : tie.Need-add-q
 add-q c = search needs
 
--- src/header.rt:128:13
 returns-8 : tie.Need-returns-8
 unfolding readLength pick guard
 returns-8 c = (search tests, search needs)
 
--- src/header.rt:130:17
 shared-slice-read-c : tie.Need-shared-slice-read-c
 shared-slice-read-c c = search needs
 
--- src/header.rt:131:28
 cast-t23 : tie.Need-cast-t23
 cast-t23 c = omega (arith, c .before .before .before .shared-slice-known3 .given (c .before .before .before .before .before .before .before .before .before .before .args .at + 1))
 
--- src/header.rt:131:47
 cast-t25 : tie.Need-cast-t25
 cast-t25 c = omega (arith, c .shared-slice-known4 .given (c .before .before .before .before .before .before .before .before .before .before .args .at + 1 + 1))
 
--- src/header.rt:131:59
 add-t27 : tie.Need-add-t27
 add-t27 c = search needs
 
--- src/header.rt:131:9
 returns-9 : tie.Need-returns-9
 returns-9 c = (search (length-high, c .before .before .before .shared-slice-known3 .given), search needs)
 
--- src/header.rt:95:1
 returns-10 : tie.Need-returns-10
 unfolding readLength pick guard
 returns-10 c = (search tests, search needs)

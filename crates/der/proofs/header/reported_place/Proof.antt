@@ -1,3 +1,4 @@
+-- `reported_place` is the definition `reportedPlace`, the one place that decides it. Assumes nothing.
 use mathlib.Core.Path.{refl}
 use Rattle.codec.specs.Header.{reportedPlace}
 use Rattle.der.proofs.header.reported_place.Statement.{statement}

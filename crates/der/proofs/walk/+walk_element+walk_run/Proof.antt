@@ -1,3 +1,5 @@
+-- `walk_element` and `walk_run` meet their contracts together. The measure is twice the octets left, one more for a run;
+-- the run's invariant is `Left`: what is still to walk gives what the whole run gives. Assumes nothing.
 use borrow.Author.Needs.{needs}
 use Prim.Native.Nat.{ℕ, _+_, _-_, _*_, _<_, _≤_}
 use native.Mathlib.Omega.{arith}
@@ -41,7 +43,6 @@ abbrev walk-run-below : ℕ → In 1 walk-run-kinds.ps
 walk-run-below t =
     and 1 walk-run-kinds.ps (falls 1 walk-run-kinds.ps _<_ μ-walk-run t) walk-run.Pre
 
--- src/walk.rt:55:9
 walk-element-returns : (t : ℕ) → walk-element-lts.Need-returns (
   header-at-reads.Asked,
   header-at-reads.Learnt,
@@ -50,7 +51,6 @@ walk-element-returns : (t : ℕ) → walk-element-lts.Need-returns (
 ) (walk-element-at t) walk-element.Post
 walk-element-returns t c = (search element-deep, tt)
 
--- src/walk.rt:58:9
 walk-element-returns-2 : (t : ℕ) → walk-element-lts.Need-returns-2 (
   header-at-reads.Asked,
   header-at-reads.Learnt,
@@ -59,7 +59,6 @@ walk-element-returns-2 : (t : ℕ) → walk-element-lts.Need-returns-2 (
 ) (walk-element-at t) walk-element.Post
 walk-element-returns-2 t c = (search element-many, tt)
 
--- src/walk.rt:60:11
 walk-element-header-at-requires : (t : ℕ) → walk-element-lts.Need-header-at-requires (
   header-at-reads.Asked,
   header-at-reads.Learnt,
@@ -68,7 +67,6 @@ walk-element-header-at-requires : (t : ℕ) → walk-element-lts.Need-header-at-
 ) (walk-element-at t) walk-element.Post
 walk-element-header-at-requires t c κs = search needs
 
--- src/walk.rt:61:25
 walk-element-enum-known-k : (t : ℕ) → walk-element-lts.Need-enum-known-k (
   header-at-reads.Asked,
   header-at-reads.Learnt,
@@ -77,7 +75,6 @@ walk-element-enum-known-k : (t : ℕ) → walk-element-lts.Need-enum-known-k (
 ) (walk-element-at t) walk-element.Post
 walk-element-enum-known-k t c = search needs
 
--- src/walk.rt:63:13
 walk-element-enum-known-form : (t : ℕ) → walk-element-lts.Need-enum-known-form (
   header-at-reads.Asked,
   header-at-reads.Learnt,
@@ -86,7 +83,6 @@ walk-element-enum-known-form : (t : ℕ) → walk-element-lts.Need-enum-known-fo
 ) (walk-element-at t) walk-element.Post
 walk-element-enum-known-form t c = search needs
 
--- src/walk.rt:68:24
 walk-element-add-stop : (t : ℕ) → walk-element-lts.Need-add-stop (
   header-at-reads.Asked,
   header-at-reads.Learnt,
@@ -95,7 +91,6 @@ walk-element-add-stop : (t : ℕ) → walk-element-lts.Need-add-stop (
 ) (walk-element-at t) walk-element.Post
 walk-element-add-stop t c = omega (arith, header-in (c .before .before .before .before .before .before .before .args .end) (c .before .before .before .before .before .before .before .args .at) _ _ _ _ _ (c .before .before .before .header-at .ensures .1) (c .before .form .given .1))
 
--- src/walk.rt:70:34
 walk-element-add-t19 : (t : ℕ) → walk-element-lts.Need-add-t19 (
   header-at-reads.Asked,
   header-at-reads.Learnt,
@@ -104,7 +99,6 @@ walk-element-add-t19 : (t : ℕ) → walk-element-lts.Need-add-t19 (
 ) (walk-element-at t) walk-element.Post
 walk-element-add-t19 t c = search needs
 
--- src/walk.rt:72:41
 walk-element-sub-walk-run : (t : ℕ) → walk-element-lts.Need-sub-walk-run (
   header-at-reads.Asked,
   header-at-reads.Learnt,
@@ -113,7 +107,6 @@ walk-element-sub-walk-run : (t : ℕ) → walk-element-lts.Need-sub-walk-run (
 ) (walk-element-at t) walk-element.Post
 walk-element-sub-walk-run t c = search needs
 
--- src/walk.rt:72:52
 walk-element-add-walk-run : (t : ℕ) → walk-element-lts.Need-add-walk-run (
   header-at-reads.Asked,
   header-at-reads.Learnt,
@@ -122,7 +115,6 @@ walk-element-add-walk-run : (t : ℕ) → walk-element-lts.Need-add-walk-run (
 ) (walk-element-at t) walk-element.Post
 walk-element-add-walk-run t c = search needs
 
--- src/walk.rt:72:17
 walk-element-walk-run-requires : (t : ℕ) → walk-element-lts.Need-walk-run-requires (
   header-at-reads.Asked,
   header-at-reads.Learnt,
@@ -131,7 +123,6 @@ walk-element-walk-run-requires : (t : ℕ) → walk-element-lts.Need-walk-run-re
 ) (walk-element-at t) walk-element.Post
 walk-element-walk-run-requires t c κs = omega (arith, header-in (c .before .before .before .before .before .before .before .before .args .end) (c .before .before .before .before .before .before .before .before .args .at) _ _ _ _ _ (c .before .before .before .before .header-at .ensures .1) (c .before .before .form .given .1))
 
--- src/walk.rt:49:1
 walk-element-returns-3 : (t : ℕ) → walk-element-lts.Need-returns-3 (
   header-at-reads.Asked,
   header-at-reads.Learnt,
@@ -140,7 +131,6 @@ walk-element-returns-3 : (t : ℕ) → walk-element-lts.Need-returns-3 (
 ) (walk-element-at t) walk-element.Post
 walk-element-returns-3 t c = (search element-no, tt)
 
--- src/walk.rt:49:1
 walk-element-returns-4 : (t : ℕ) → walk-element-lts.Need-returns-4 (
   header-at-reads.Asked,
   header-at-reads.Learnt,
@@ -149,7 +139,6 @@ walk-element-returns-4 : (t : ℕ) → walk-element-lts.Need-returns-4 (
 ) (walk-element-at t) walk-element.Post
 walk-element-returns-4 t c = (search element-flat, omega (arith, header-in (c .before .before .before .before .before .before .before .before .args .end) (c .before .before .before .before .before .before .before .before .args .at) _ _ _ _ _ (c .before .before .before .before .header-at .ensures .1) (c .before .before .form .given .1)))
 
--- src/walk.rt:49:1
 walk-element-returns-5 : (t : ℕ) → walk-element-lts.Need-returns-5 (
   header-at-reads.Asked,
   header-at-reads.Learnt,
@@ -165,28 +154,24 @@ walk-run-Inv-loop s at end depth met most place₀ n₀ place n =
 abbrev walk-run-μ-loop : walk-run-lts.MeasureT-loop
 walk-run-μ-loop s at end depth met most place₀ n₀ place n = end - place
 
--- src/walk.rt:86:5
 walk-run-loop-holds : (t : ℕ) → walk-run-lts.Need-loop-holds (
   walk-element-below t,
   walk-element.Post,
 ) (walk-run-at t) walk-run.Post walk-run-Inv-loop walk-run-μ-loop
 walk-run-loop-holds t c = (search needs, search needs, search left-all)
 
--- src/walk.rt:87:15
 walk-run-walk-element-requires : (t : ℕ) → walk-run-lts.Need-walk-element-requires (
   walk-element-below t,
   walk-element.Post,
 ) (walk-run-at t) walk-run.Post walk-run-Inv-loop walk-run-μ-loop
 walk-run-walk-element-requires t c κs = omega arith
 
--- src/walk.rt:88:27
 walk-run-enum-known-k : (t : ℕ) → walk-run-lts.Need-enum-known-k (
   walk-element-below t,
   walk-element.Post,
 ) (walk-run-at t) walk-run.Post walk-run-Inv-loop walk-run-μ-loop
 walk-run-enum-known-k t c = search needs
 
--- src/walk.rt:89:17
 walk-run-returns :
     (t : ℕ) →
     walk-run-lts.Need-returns
@@ -197,21 +182,18 @@ walk-run-returns :
     walk-run-μ-loop
 walk-run-returns t c = (search run-no, tt)
 
--- src/walk.rt:91:24
 walk-run-enum-known-next : (t : ℕ) → walk-run-lts.Need-enum-known-next (
   walk-element-below t,
   walk-element.Post,
 ) (walk-run-at t) walk-run.Post walk-run-Inv-loop walk-run-μ-loop
 walk-run-enum-known-next t c = search needs
 
--- src/walk.rt:86:5
 walk-run-loop-less : (t : ℕ) → walk-run-lts.Need-loop-less (
   walk-element-below t,
   walk-element.Post,
 ) (walk-run-at t) walk-run.Post walk-run-Inv-loop walk-run-μ-loop
 walk-run-loop-less t c = omega (arith, step-in (c .before .before .before .before .before .loop .place) (c .before .before .before .before .before .before .before .args .end) _ _ _ (c .before .before .before .walk-element .ensures .1) (c .before .next .given .1))
 
--- src/walk.rt:86:5
 walk-run-loop-again : (t : ℕ) → walk-run-lts.Need-loop-again (
   walk-element-below t,
   walk-element.Post,
@@ -220,7 +202,6 @@ walk-run-loop-again t c =
     let j = step-in (c .before .before .before .before .before .loop .place) (c .before .before .before .before .before .before .before .args .end) _ _ _ (c .before .before .before .walk-element .ensures .1) (c .before .next .given .1) in
     (omega arith, j .1, search run-more)
 
--- src/walk.rt:79:1
 walk-run-returns-2 : (t : ℕ) → walk-run-lts.Need-returns-2 (
   walk-element-below t,
   walk-element.Post,

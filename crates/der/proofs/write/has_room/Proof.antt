@@ -1,5 +1,5 @@
+-- `has_room` meets its contract: the difference that cannot wrap says what the sum would. Assumes nothing.
 use Rattle.der.proofs.Writes.{no-room, some-room}
-use borrow.Author.Needs.{needs}
 use Rattle.der.proofs.write.has_room.Statement.{statement}
 use Rattle.der.proofs.write.has_room.Tie as tie
 

@@ -1,19 +1,15 @@
+-- `identifier_size` meets its contract in each of the three forms. Assumes nothing.
 use Rattle.der.proofs.Sizes.{identifier-size-one, identifier-size-two, identifier-size-three}
 use borrow.Author.Needs.{needs}
 use Rattle.der.proofs.write.identifier_size.Statement.{statement}
 use Rattle.der.proofs.write.identifier_size.Tie as tie
-use Rattle.der.proofs.write.identifier_size.Reads as reads
-use Rattle.der.proofs.write.identifier_size.Lts as lts
 
--- src/write.rt:49:9
 returns : tie.Need-returns
 returns c = (search identifier-size-one, search needs)
 
--- src/write.rt:52:9
 returns-2 : tie.Need-returns-2
 returns-2 c = (search identifier-size-two, search needs)
 
--- src/write.rt:45:1
 returns-3 : tie.Need-returns-3
 returns-3 c = (search identifier-size-three, search needs)
 

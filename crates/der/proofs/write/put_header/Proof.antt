@@ -1,3 +1,4 @@
+-- `put_header` meets its contract: refused in order with nothing changed, or the whole header. Assumes nothing.
 use mathlib.Core.Path.{sym, _∙_}
 use native.Mathlib.Omega.{arith}
 use denote.Ref.{now}
@@ -5,74 +6,55 @@ use Rattle.der.proofs.Writes.{kept, wrote, no-form, no-number, no-size,
 use borrow.Author.Needs.{needs}
 use Rattle.der.proofs.write.put_header.Statement.{statement}
 use Rattle.der.proofs.write.put_header.Tie as tie
-use Rattle.der.proofs.write.put_header.Reads as reads
-use Rattle.der.proofs.write.put_header.Lts as lts
-use Rattle.der.proofs.write.has_room.Reads as has-room-reads
-use Rattle.der.proofs.write.identifier_size.Reads as identifier-size-reads
-use Rattle.der.proofs.write.length_size.Reads as length-size-reads
-use Rattle.der.proofs.write.write_header.Reads as write-header-reads
 
--- src/write.rt:133:9
 returns : tie.Need-returns
 returns c =
     let a = c .before .before .args in
     let e = no-form (now (a .out)) (a .at) (a .form) (a .number) (a .size) (c .if1 .taken) in
     (sym e, kept _ _ _ (now (a .out)) (a .at) _ e)
 
--- src/write.rt:136:9
 returns-2 : tie.Need-returns-2
 returns-2 c =
     let a = c .before .before .before .args in
     let e = no-number (now (a .out)) (a .at) (a .form) (a .number) (a .size) (c .before .if1 .left) (c .if2 .taken) in
     (sym e, kept _ _ _ (now (a .out)) (a .at) _ e)
 
--- src/write.rt:139:9
 returns-3 : tie.Need-returns-3
 returns-3 c =
     let a = c .before .before .before .before .args in
     let e = no-size (now (a .out)) (a .at) (a .form) (a .number) (a .size) (c .before .before .if1 .left) (c .before .if2 .left) (c .if3 .taken) in
     (sym e, kept _ _ _ (now (a .out)) (a .at) _ e)
 
--- src/write.rt:141:13
 identifier-size-requires : tie.Need-identifier-size-requires
 identifier-size-requires c κs = search needs
 
--- src/write.rt:141:39
 length-size-requires : tie.Need-length-size-requires
 length-size-requires c κs = search needs
 
--- src/write.rt:141:13
 add-n : tie.Need-add-n
 add-n c = search needs
 
--- src/write.rt:142:8
 has-room-requires : tie.Need-has-room-requires
 has-room-requires c κs = search needs
 
--- src/write.rt:143:9
 write-header-requires : tie.Need-write-header-requires
 write-header-requires c κs = (search needs, search needs, enough (now (c .before .before .before .before .before .before .before .before .before .before .args .out)) (c .before .before .before .before .before .before .before .before .before .before .args .at) (c .before .before .before .before .before .before .before .before .before .before .args .form) (c .before .before .before .before .before .before .before .before .before .before .args .number) (c .before .before .before .before .before .before .before .before .before .before .args .size) (c .before .before .before .before .before .identifier-size .result) (c .before .before .before .before .length-size .result) (c .before .before .before .before .before .identifier-size .ensures .0) (c .before .before .before .before .length-size .ensures .0) (sym (c .before .if4 .taken) ∙ c .before .before .has-room .ensures))
 
--- src/write.rt:144:30
 add-t16 : tie.Need-add-t16
 add-t16 c = omega (arith, enough (now (c .before .before .before .before .before .before .before .before .before .before .before .before .before .args .out)) (c .before .before .before .before .before .before .before .before .before .before .before .before .before .args .at) (c .before .before .before .before .before .before .before .before .before .before .before .before .before .args .form) (c .before .before .before .before .before .before .before .before .before .before .before .before .before .args .number) (c .before .before .before .before .before .before .before .before .before .before .before .before .before .args .size) (c .before .before .before .before .before .before .before .before .identifier-size .result) (c .before .before .before .before .before .before .before .length-size .result) (c .before .before .before .before .before .before .before .before .identifier-size .ensures .0) (c .before .before .before .before .before .before .before .length-size .ensures .0) (sym (c .before .before .before .before .if4 .taken) ∙ c .before .before .before .before .before .has-room .ensures), header-octets (now (c .before .before .before .before .before .before .before .before .before .before .before .before .before .args .out)) (c .before .before .before .before .before .before .before .before .before .before .before .before .before .args .at) (c .before .before .before .before .before .before .before .before .before .before .before .before .before .args .form) (c .before .before .before .before .before .before .before .before .before .before .before .before .before .args .number) (c .before .before .before .before .before .before .before .before .before .before .before .before .before .args .size) (c .before .before .before .before .before .before .before .before .identifier-size .result) (c .before .before .before .before .before .before .before .length-size .result) (c .before .before .before .before .before .before .before .before .identifier-size .ensures .0) (c .before .before .before .before .before .before .before .length-size .ensures .0))
 
--- src/write.rt:144:9
 same-length : tie.Need-same-length
 same-length c = search needs
 
--- src/write.rt:144:9
 returns-4 : tie.Need-returns-4
 returns-4 c =
     let a = c .before .before .before .before .before .before .before .before .before .before .before .before .before .args in
     let e = space (now (c .before .before .before .before .before .before .before .before .before .before .before .before .before .args .out)) (c .before .before .before .before .before .before .before .before .before .before .before .before .before .args .at) (c .before .before .before .before .before .before .before .before .before .before .before .before .before .args .form) (c .before .before .before .before .before .before .before .before .before .before .before .before .before .args .number) (c .before .before .before .before .before .before .before .before .before .before .before .before .before .args .size) (c .before .before .before .before .before .before .before .before .identifier-size .result) (c .before .before .before .before .before .before .before .length-size .result) (c .before .before .before .before .before .before .before .before .identifier-size .ensures .0) (c .before .before .before .before .before .before .before .length-size .ensures .0) (c .before .before .before .before .before .before .before .before .before .before .before .if1 .left) (c .before .before .before .before .before .before .before .before .before .before .if2 .left) (c .before .before .before .before .before .before .before .before .before .if3 .left) (sym (c .before .before .before .before .if4 .taken) ∙ c .before .before .before .before .before .has-room .ensures) in
     (sym e, wrote _ _ (now (a .out)) _ (a .at) _ e (c .before .before .write-header .ensures))
 
--- src/write.rt:128:1
 same-length-2 : tie.Need-same-length-2
 same-length-2 c = search needs
 
--- src/write.rt:128:1
 returns-5 : tie.Need-returns-5
 returns-5 c =
     let a = c .before .before .before .before .before .before .before .before .before .args in

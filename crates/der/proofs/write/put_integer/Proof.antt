@@ -1,3 +1,4 @@
+-- `put_integer` meets its contract: refused with nothing changed, or the whole INTEGER. Assumes nothing.
 use mathlib.Core.Path.{sym, _∙_}
 use native.Mathlib.Omega.{arith}
 use Prim.Native.Nat.{_+_}
@@ -7,48 +8,34 @@ use Rattle.der.proofs.Writes.{kept, wrote, has-space, integer-no, integ
 use borrow.Author.Needs.{needs}
 use Rattle.der.proofs.write.put_integer.Statement.{statement}
 use Rattle.der.proofs.write.put_integer.Tie as tie
-use Rattle.der.proofs.write.put_integer.Reads as reads
-use Rattle.der.proofs.write.put_integer.Lts as lts
-use Rattle.der.proofs.write.has_room.Reads as has-room-reads
-use Rattle.der.proofs.write.integer_size.Reads as integer-size-reads
-use Rattle.der.proofs.write.write_integer.Reads as write-integer-reads
 
--- src/write.rt:164:9
 integer-size-requires : tie.Need-integer-size-requires
 integer-size-requires c κs = search needs
 
--- src/write.rt:165:16
 add-size : tie.Need-add-size
 add-size c = search needs
 
--- src/write.rt:166:8
 has-room-requires : tie.Need-has-room-requires
 has-room-requires c κs = search needs
 
--- src/write.rt:167:9
 write-integer-requires : tie.Need-write-integer-requires
 write-integer-requires c κs = (c .before .before .before .before .integer-size .ensures .0, c .before .before .before .before .integer-size .ensures .1, has-space _ _ _ (sym (c .before .if1 .taken) ∙ c .before .before .has-room .ensures))
 
--- src/write.rt:168:30
 add-t12 : tie.Need-add-t12
 add-t12 c = omega (arith, has-space (c .before .before .before .before .before .before .before .before .before .args .at) (2 + c .before .before .before .before .before .before .before .integer-size .result) (length (now (c .before .before .before .before .before .before .before .before .before .args .out))) (sym (c .before .before .before .before .if1 .taken) ∙ c .before .before .before .before .before .has-room .ensures))
 
--- src/write.rt:168:9
 same-length : tie.Need-same-length
 same-length c = search needs
 
--- src/write.rt:168:9
 returns : tie.Need-returns
 returns c =
     let a = c .before .before .before .before .before .before .before .before .before .args in
     let e = integer-yes (now (c .before .before .before .before .before .before .before .before .before .args .out)) (c .before .before .before .before .before .before .before .before .before .args .at) (c .before .before .before .before .before .before .before .before .before .args .x) (c .before .before .before .before .before .before .before .integer-size .result) (c .before .before .before .before .before .before .before .before .before .fits .x) (c .before .before .before .before .before .before .before .integer-size .ensures .0) (sym (c .before .before .before .before .if1 .taken) ∙ c .before .before .before .before .before .has-room .ensures) in
     (sym e, wrote _ _ (now (a .out)) _ (a .at) _ e (c .before .before .write-integer .ensures))
 
--- src/write.rt:160:1
 same-length-2 : tie.Need-same-length-2
 same-length-2 c = search needs
 
--- src/write.rt:160:1
 returns-2 : tie.Need-returns-2
 returns-2 c =
     let a = c .before .before .before .before .before .args in

@@ -1,20 +1,16 @@
+-- `significant_bits` meets its contract: 64 less the leading zeros of the word. Assumes nothing.
 use lib.Count.{leading-le}
 use Rattle.der.proofs.Sizes.{bits-64}
 use borrow.Author.Needs.{needs}
 use Rattle.der.proofs.write.significant_bits.Statement.{statement}
 use Rattle.der.proofs.write.significant_bits.Tie as tie
-use Rattle.der.proofs.write.significant_bits.Reads as reads
-use Rattle.der.proofs.write.significant_bits.Lts as lts
 
--- src/write.rt:24:6
 sub-result : tie.Need-sub-result
 sub-result c = leading-le 64 _
 
--- src/write.rt:24:5
 cast-result : tie.Need-cast-result
 cast-result c = search needs
 
--- src/write.rt:21:1
 returns : tie.Need-returns
 returns c = (search bits-64, search needs)
 

@@ -1,35 +1,25 @@
+-- `write_header` meets its contract: the length is spliced in after the identifier, and the two are one splice. Assumes nothing.
 use denote.Ref.{now}
 use Rattle.der.proofs.Writes.{header-first, header-second, header-put}
 use borrow.Author.Needs.{needs}
 use Rattle.der.proofs.write.write_header.Statement.{statement}
 use Rattle.der.proofs.write.write_header.Tie as tie
-use Rattle.der.proofs.write.write_header.Reads as reads
-use Rattle.der.proofs.write.write_header.Lts as lts
-use Rattle.der.proofs.write.identifier_size.Reads as identifier-size-reads
-use Rattle.der.proofs.write.put_identifier.Reads as put-identifier-reads
-use Rattle.der.proofs.write.put_length.Reads as put-length-reads
 
--- src/write.rt:123:5
 put-identifier-requires : tie.Need-put-identifier-requires
 put-identifier-requires c κs = (search needs, search needs, search header-first)
 
--- src/write.rt:124:26
 identifier-size-requires : tie.Need-identifier-size-requires
 identifier-size-requires c κs = search needs
 
--- src/write.rt:124:21
 add-put-length : tie.Need-add-put-length
 add-put-length c = search needs
 
--- src/write.rt:124:5
 put-length-requires : tie.Need-put-length-requires
 put-length-requires c κs = header-second (now (c .before .before .before .before .before .before .before .args .out)) (c .before .before .before .before .before .before .before .args .at) (c .before .before .before .before .before .before .before .args .form) (c .before .before .before .before .before .before .before .args .number) (c .before .before .before .before .before .before .before .args .size) (c .before .before .before .before .before .before .before .pre .2) (c .before .before .before .before .put-identifier .last .0) (c .identifier-size .result) (c .before .before .before .before .put-identifier .kept .0) (c .identifier-size .ensures .0)
 
--- src/write.rt:119:1
 same-length : tie.Need-same-length
 same-length c = search needs
 
--- src/write.rt:119:1
 returns : tie.Need-returns
 returns c = search header-put
 

@@ -1,3 +1,4 @@
+-- `write_integer` meets its contract: two stores and the octets of the number are one splice. Assumes nothing.
 use mathlib.Core.Path.{_∙_}
 use native.Mathlib.Omega.{arith}
 use lib.ListN.{length-set}
@@ -5,39 +6,28 @@ use Rattle.der.proofs.Writes.{integer-put}
 use borrow.Author.Needs.{needs}
 use Rattle.der.proofs.write.write_integer.Statement.{statement}
 use Rattle.der.proofs.write.write_integer.Tie as tie
-use Rattle.der.proofs.write.write_integer.Reads as reads
-use Rattle.der.proofs.write.write_integer.Lts as lts
-use Rattle.der.proofs.write.put_octets.Reads as put-octets-reads
 
--- src/write.rt:154:5
 slice-write-out : tie.Need-slice-write-out
 slice-write-out c = search needs
 
--- src/write.rt:155:19
 cast-out : tie.Need-cast-out
 cast-out c = search needs
 
--- src/write.rt:155:9
 add-out : tie.Need-add-out
 add-out c = search needs
 
--- src/write.rt:155:5
 slice-write-out-2 : tie.Need-slice-write-out-2
 slice-write-out-2 c = simp length-set (omega arith)
 
--- src/write.rt:156:21
 add-put-octets : tie.Need-add-put-octets
 add-put-octets c = search needs
 
--- src/write.rt:156:5
 put-octets-requires : tie.Need-put-octets-requires
 put-octets-requires c κs = simp length-set (omega arith)
 
--- src/write.rt:150:1
 same-length : tie.Need-same-length
 same-length c = c .before .before .put-octets .kept .0 ∙ simp length-set
 
--- src/write.rt:150:1
 returns : tie.Need-returns
 returns c = search integer-put
 
