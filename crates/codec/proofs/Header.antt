@@ -14,7 +14,7 @@ use Rattle.answer.proofs.Logic.{by-le, and-right, and-both, not-equal}
 use Rattle.answer.proofs.Answer.{guard-yes, guard-case, got-inj, refused-got, pick-yes, pick-no, pick-case, bind-got, bind-case}
 use Rattle.codec.specs.Octets.{Octets, Taken, taken, octet}
 use Rattle.codec.specs.Shortest.{lengthOctets}
-use Rattle.codec.specs.Header.{Identifier, identifier, readIdentifier, readLength, Header, header, reported, readHeader, identifierOctets, identifierGood, lengthGood, headerOctets}
+use Rattle.codec.specs.Header.{Identifier, identifier, readHighNumber, readIdentifier, readLength, Header, header, reported, readHeader, identifierOctets, identifierGood, lengthGood, headerOctets}
 use Rattle.codec.proofs.Octets.{octets-right, same-taken, octet-case}
 use Rattle.codec.proofs.Shortest.{length-short, length-one, length-two}
 use Rattle.codec.proofs.Codec.{Front}
@@ -37,7 +37,7 @@ unfolding identifierOctets
 three-octets i l = pick-no _ _ _ (le→nltb (i .number) 31 (omega arith)) ∙ pick-no _ _ _ (le→nltb (i .number) 128 l)
 
 identifier-back : (p : ℕ) (i : Identifier) (r : List ℕ) → T (identifierGood i) → readIdentifier p (identifierOctets i ++ r) ≡ got (taken i (p + length (identifierOctets i)) r)
-unfolding readIdentifier octet pick
+unfolding readIdentifier readHighNumber octet pick
 identifier-back p i r t =
     let f : ℕ = i .form in
     let n : ℕ = i .number in
@@ -63,7 +63,7 @@ identifier-good f n h l = and-both (ltb f 8) _ (lt→ltb f 8 h) (lt→ltb n 1638
 
 identifier-sound : (p : ℕ) (bs : List ℕ) (w : Taken Identifier) → Octets bs → readIdentifier p bs ≡ got w
     → T (identifierGood (w .val)) × (identifierOctets (w .val) ++ w .rest ≡ bs)
-unfolding readIdentifier
+unfolding readIdentifier readHighNumber
 identifier-sound p bs w o e =
     octet-case _ _ _ o e λ a r ea ha oa e₁.
     pick-case _ _ _ e₁

@@ -22,18 +22,22 @@ identifier f n = record { form = f; number = n }
 unfoldable pub holds : Identifier → Bool
 holds i = eqb (i .form % 2) 1
 
--- "Numbers 0 to 30 take one identifier octet. From 31, the low five bits are all ones and the number follows seven bits
--- to an octet, high bit set on all but the last, shortest form, at most two such octets"
+-- "the number follows seven bits to an octet, high bit set on all but the last, shortest form, at most two such octets
+-- (16,383)"
+unfoldable pub readHighNumber : ℕ → ℕ → List ℕ → Answer (Taken Identifier)
+readHighNumber form p bs =
+    octet p bs λ b q r.
+    pick (ltb b 128)
+    (guard (leb 31 b) badIdentifier p (got (taken (identifier form b) q r)))
+    (guard (ltb 128 b) badIdentifier p
+    (octet q r λ c q₂ r₂.
+    guard (ltb c 128) badIdentifier q (got (taken (identifier form (b % 128 * 128 + c)) q₂ r₂))))
+
+-- "Numbers 0 to 30 take one identifier octet. From 31, the low five bits are all ones"
 unfoldable pub readIdentifier : ℕ → List ℕ → Answer (Taken Identifier)
 readIdentifier p bs =
     octet p bs λ a q r.
-    pick (eqb (a % 32) 31)
-    (octet q r λ b q₂ r₂.
-    pick (ltb b 128)
-    (guard (leb 31 b) badIdentifier q (got (taken (identifier (a / 32) b) q₂ r₂)))
-    (guard (ltb 128 b) badIdentifier q
-    (octet q₂ r₂ λ c q₃ r₃.
-    guard (ltb c 128) badIdentifier q₂ (got (taken (identifier (a / 32) (b % 128 * 128 + c)) q₃ r₃)))))
+    pick (eqb (a % 32) 31) (readHighNumber (a / 32) q r)
     (got (taken (identifier (a / 32) (a % 32)) q r))
 
 -- "Lengths are definite and shortest. Octets 80 and 83 to FF are refused, and 82 as soon as 00 follows"

@@ -11,7 +11,7 @@ use lib.Bits.{bitAnd, bitOr}
 use borrow.Author.Tests.{le-leb, lt-leb}
 use Rattle.answer.specs.Answer.{Answer, got, refused, guard, bind, pick}
 use Rattle.codec.specs.Octets.{taken}
-use Rattle.codec.specs.Header.{identifier, header, readIdentifier, readLength, readHeader, reported, reportedPlace}
+use Rattle.codec.specs.Header.{identifier, header, readHighNumber, readIdentifier, readLength, readHeader, reported, reportedPlace}
 use Rattle.der.specs.Header.{ofIdentifier, ofLength, ofHeader, IdentifierInside, LengthInside, HeaderInside}
 use Rattle.der.specs.declared.header.Identifier.{Identifier}
 use Rattle.der.specs.declared.header.Length.{Length}
@@ -19,11 +19,20 @@ use Rattle.der.specs.declared.header.Header.{Header}
 use Rattle.der.proofs.Bits.{tests, join8}
 
 -- a tag number of two octets
-pub identifier-high : (s : List ℕ) (at end : ℕ) → end ≤ length s → at < end → bitAnd (getD s at 0) 31 ≡ 31 → at + 1 < end → 128 ≤ getD s (at + 1) 0 → 128 < getD s (at + 1) 0
-    → at + 1 + 1 < end → getD s (at + 1 + 1) 0 < 128
-    → got (taken (identifier (getD s at 0 / 32) (bitOr ((bitAnd (getD s (at + 1) 0) 127 * 2 ^ 7) % 2 ^ 64) (getD s (at + 1 + 1) 0))) (at + 1 + 1 + 1) (slice (at + 1 + 1 + 1) end s)) ≡ readIdentifier at (slice at end s)
-unfolding readIdentifier pick guard
-identifier-high s at end fit h₁ o h₂ b b′ h₃ c = simp tests
+pub number-high : (s : List ℕ) (form at end : ℕ) → end ≤ length s → at < end → 128 ≤ getD s at 0 → 128 < getD s at 0 → at + 1 < end → getD s (at + 1) 0 < 128
+    → got (taken (identifier form (bitOr ((bitAnd (getD s at 0) 127 * 2 ^ 7) % 2 ^ 64) (getD s (at + 1) 0))) (at + 1 + 1) (slice (at + 1 + 1) end s)) ≡ readHighNumber form at (slice at end s)
+unfolding readHighNumber pick guard
+number-high s form at end fit h₁ b b′ h₂ c = simp tests
+
+-- the rest of an identifier from its second octet on
+pub identifier-high : (s : List ℕ) (at end : ℕ) (r : Identifier) → end ≤ length s → at < end → bitAnd (getD s at 0) 31 ≡ 31
+    → ofIdentifier s end r ≡ readHighNumber (getD s at 0 / 32) (at + 1) (slice (at + 1) end s) → ofIdentifier s end r ≡ readIdentifier at (slice at end s)
+unfolding readIdentifier pick
+identifier-high s at end r fit h o e = e ∙ simp tests
+
+pub inside-high : (at end : ℕ) (r : Identifier) → IdentifierInside (at + 1) end r → IdentifierInside at end r
+inside-high at end (Identifier.Is f n x) i = omega arith
+inside-high at end (Identifier.Refused k p) i = tt
 
 -- a length of two octets
 pub length-high : (s : List ℕ) (at end : ℕ) → end ≤ length s → at < end → 128 ≤ getD s at 0 → getD s at 0 ≡ 130 → at + 1 < end → 1 ≤ getD s (at + 1) 0 → at + 1 + 1 < end

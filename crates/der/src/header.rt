@@ -7,7 +7,7 @@ ghost use mathlib.Core.Path.{_≡_};
 ghost use Prim.Native.Nat.{_≤_};
 ghost use lib.ListN.{length, take};
 ghost use lib.Seq.{slice};
-ghost use Rattle.codec.specs.Header.{readIdentifier, readLength, readHeader, reportedPlace};
+ghost use Rattle.codec.specs.Header.{readHighNumber, readIdentifier, readLength, readHeader, reportedPlace};
 ghost use Rattle.der.specs.Header.{ofIdentifier, ofLength, ofHeader, IdentifierInside, LengthInside, HeaderInside};
 
 // An identifier: the three high bits of its first octet (the lowest of them is bit 6, "holds elements"), its tag
@@ -38,7 +38,46 @@ pub enum Header {
     Refused(u8, usize),
 }
 
-// Octets are taken one at a time, so that running out before a bad octet is RUNS_OUT.
+// A tag number from 31 on, of one or two octets from at on. Octets are taken one at a time, so that running out before
+// a bad octet is RUNS_OUT.
+fn read_high_number(s: &[u8], form: u8, at: usize, end: usize) -> Identifier
+    requires { ⌜ end ≤ length (now s) ⌝ }
+    ensures is { λ r. ⌜ ofIdentifier (now (s .entry)) end r ≡ readHighNumber form at (slice at end (now (s .entry))) ⌝ }
+    ensures inside { λ r. ⌜ IdentifierInside at end r ⌝ }
+{
+    if end <= at {
+        return Identifier::Refused(RUNS_OUT, at);
+    }
+    let b = s[at];
+    let p = at + 1;
+    if b < 128 {
+        if b < 31 {
+            return Identifier::Refused(BAD_IDENTIFIER, at);
+        }
+        return Identifier::Is {
+            form,
+            number: b as usize,
+            next: p,
+        };
+    }
+    if b <= 128 {
+        return Identifier::Refused(BAD_IDENTIFIER, at);
+    }
+    if end <= p {
+        return Identifier::Refused(RUNS_OUT, p);
+    }
+    let c = s[p];
+    if 128 <= c {
+        return Identifier::Refused(BAD_IDENTIFIER, p);
+    }
+    let high = (b & 0x7f) as usize;
+    Identifier::Is {
+        form,
+        number: high << 7 | c as usize,
+        next: p + 1,
+    }
+}
+
 fn read_identifier(s: &[u8], at: usize, end: usize) -> Identifier
     requires { ⌜ end ≤ length (now s) ⌝ }
     ensures is { λ r. ⌜ ofIdentifier (now (s .entry)) end r ≡ readIdentifier at (slice at end (now (s .entry))) ⌝ }
@@ -50,44 +89,13 @@ fn read_identifier(s: &[u8], at: usize, end: usize) -> Identifier
     let a = s[at];
     let form = a / 32;
     let low = a & 31;
-    let p = at + 1;
-    if low != 31 {
-        return Identifier::Is {
-            form,
-            number: low as usize,
-            next: p,
-        };
+    if low == 31 {
+        return read_high_number(s, form, at + 1, end);
     }
-    if end <= p {
-        return Identifier::Refused(RUNS_OUT, p);
-    }
-    let b = s[p];
-    let q = p + 1;
-    if b < 128 {
-        if b < 31 {
-            return Identifier::Refused(BAD_IDENTIFIER, p);
-        }
-        return Identifier::Is {
-            form,
-            number: b as usize,
-            next: q,
-        };
-    }
-    if b <= 128 {
-        return Identifier::Refused(BAD_IDENTIFIER, p);
-    }
-    if end <= q {
-        return Identifier::Refused(RUNS_OUT, q);
-    }
-    let c = s[q];
-    if 128 <= c {
-        return Identifier::Refused(BAD_IDENTIFIER, q);
-    }
-    let high = (b & 0x7f) as usize;
     Identifier::Is {
         form,
-        number: high << 7 | c as usize,
-        next: q + 1,
+        number: low as usize,
+        next: at + 1,
     }
 }
 
