@@ -1,5 +1,6 @@
 // The first pass (document 01, "DER as walked"): nested elements within limits, no schema. One function walks an
-// element, another the run of elements inside it; they call each other.
+// element, another the run of elements inside it; they call each other. A header's octets are read once, and the
+// content of an element that holds none is not read at all.
 use crate::header::Header;
 use crate::header::header_at;
 use answer::RUNS_OUT;
