@@ -29,6 +29,38 @@ tooManyElements = 6
 abbrev pub spareBytes : ℕ
 spareBytes = 7
 
+-- version unknown
+abbrev pub unknownVersion : ℕ
+unknownVersion = 8
+
+-- wrong, missing or extra element
+abbrev pub wrongElement : ℕ
+wrongElement = 9
+
+-- INTEGER, ENUMERATED, BOOLEAN or NULL content wrong or above its top
+abbrev pub badContent : ℕ
+badContent = 10
+
+-- number not in this version
+abbrev pub notInVersion : ℕ
+notInVersion = 11
+
+-- number not above the one before
+abbrev pub fieldOrder : ℕ
+fieldOrder = 12
+
+-- member not above the one before
+abbrev pub memberOrder : ℕ
+memberOrder = 13
+
+-- 17th member
+abbrev pub tooManyMembers : ℕ
+tooManyMembers = 14
+
+-- record not well-shaped, or an octet part outside its buffer
+abbrev pub illShaped : ℕ
+illShaped = 20
+
 -- output shorter than the encoding
 abbrev pub outputShort : ℕ
 outputShort = 21

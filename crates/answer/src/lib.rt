@@ -15,5 +15,21 @@ pub const TOO_DEEP: u8 = 5;
 pub const TOO_MANY_ELEMENTS: u8 = 6;
 // Bytes after the outermost element; place is the first spare byte.
 pub const SPARE_BYTES: u8 = 7;
+// Version unknown.
+pub const UNKNOWN_VERSION: u8 = 8;
+// Wrong, missing or extra element; place is its start, or the holder's end if missing.
+pub const WRONG_ELEMENT: u8 = 9;
+// INTEGER, ENUMERATED, BOOLEAN or NULL content wrong or above its top.
+pub const BAD_CONTENT: u8 = 10;
+// Field number not in this version.
+pub const NOT_IN_VERSION: u8 = 11;
+// Field number not above the one before.
+pub const FIELD_ORDER: u8 = 12;
+// Set member not above the one before.
+pub const MEMBER_ORDER: u8 = 13;
+// 17th set member.
+pub const TOO_MANY_MEMBERS: u8 = 14;
+// Record not well-shaped, or an octet part outside its buffer; place 0.
+pub const ILL_SHAPED: u8 = 20;
 // The output is shorter than what is to be written; place 0.
 pub const OUTPUT_SHORT: u8 = 21;

@@ -1,6 +1,6 @@
 pub mod Octets
 pub mod Shortest
-pub mod Integer
 pub mod Header
+pub mod Integer
 pub mod Element
 pub mod Tree

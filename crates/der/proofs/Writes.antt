@@ -18,11 +18,12 @@ use Rattle.answer.proofs.Logic.{by-le}
 use Rattle.answer.specs.Answer.{Answer, got, refused, guard, pick}
 use Rattle.codec.specs.Octets.{splice, left}
 use Rattle.codec.specs.Shortest.{lowOctets, bits, integerSize, integerOctets, lengthSize, lengthOctets}
+use Rattle.codec.specs.Integer.{integerElement}
 use Rattle.codec.specs.Header.{Identifier, identifier, identifierOctets, headerOctets, elementOctets}
 use Rattle.codec.proofs.Splice.{splice-nothing, splice-one, splice-splice, splice-before, splice-stores}
 use Rattle.codec.proofs.Shortest.{bits-le, length-lowOctets, length-short, length-long}
 use Rattle.codec.proofs.Header.{one-octet, two-octets, three-octets}
-use Rattle.der.specs.Write.{headerWritten, roomFor, integerElement}
+use Rattle.der.specs.Write.{headerWritten, roomFor}
 use Rattle.der.proofs.Bits.{low7}
 use Rattle.der.proofs.Sizes.{identifier-size-one, identifier-size-two, identifier-size-three}
 

@@ -5,8 +5,7 @@ use lib.ListN.{length}
 use lib.Dec.{leb}
 use Rattle.answer.specs.Answer.{Answer, got, refused, guard}
 use Rattle.answer.specs.Refusal.{badIdentifier, badLength, outputShort}
-use Rattle.codec.specs.Shortest.{integerOctets}
-use Rattle.codec.specs.Header.{Identifier, identifier, identifierGood, lengthGood, headerOctets, elementOctets}
+use Rattle.codec.specs.Header.{Identifier, identifierGood, lengthGood, headerOctets}
 use Rattle.der.specs.declared.write.Written.{Written}
 
 abbrev pub ofWritten : Written → Answer ℕ
@@ -23,7 +22,3 @@ headerWritten out p i n =
     guard (identifierGood i) badIdentifier p
     (guard (lengthGood n) badLength p
     (roomFor out p (headerOctets i n)))
-
--- INTEGER: identifier 02
-unfoldable pub integerElement : ℕ → List ℕ
-integerElement n = elementOctets (identifier 0 2) (integerOctets n)

@@ -9,8 +9,9 @@ ghost use lib.Dec.{leb};
 ghost use lib.ListN.{length};
 ghost use Rattle.codec.specs.Octets.{splice, left};
 ghost use Rattle.codec.specs.Shortest.{lowOctets, bits, integerSize, lengthSize, lengthOctets};
+ghost use Rattle.codec.specs.Integer.{integerElement};
 ghost use Rattle.codec.specs.Header.{identifier, identifierOctets, headerOctets};
-ghost use Rattle.der.specs.Write.{ofWritten, integerElement, headerWritten, roomFor};
+ghost use Rattle.der.specs.Write.{ofWritten, headerWritten, roomFor};
 
 // The place after what was written; or a refusal with its place.
 pub enum Written {

@@ -1,0 +1,1 @@
+// The schema: versions, fields and their encoding (specs/ and proofs/).
