@@ -3,7 +3,8 @@
 use mathlib.Core.Bool.{Bool, true, false, _&&_, _||_}
 use mathlib.Core.Option.{Option, none, some}
 use mathlib.Core.List.{List, [], _∷_}
-use Prim.Native.Nat.{ℕ}
+use Prim.Native.Nat.{ℕ, suc}
+use lib.ListN.{getD}
 use lib.Dec.{leb, eqb}
 use Rattle.answer.specs.Answer.{pick}
 
@@ -77,6 +78,15 @@ knownVersion v = eqb v 1 || eqb v 2 || eqb v 3 || eqb v 4 || eqb v 100 || eqb v 
 -- a version holds a row's field
 unfoldable pub heldIn : ℕ → Row → Bool
 heldIn v r = leb (r .first) v && leb v (r .last)
+
+-- the k-th row; past the table one that no version holds
+abbrev pub rowAt : ℕ → Row
+rowAt k = getD rows k (row 0 null 1 0)
+
+-- the place of a number among the rows; past the last where it has none
+unfoldable pub indexOf : List Row → ℕ → ℕ
+indexOf [] n = 0
+indexOf (r ∷ rs) n = pick (eqb (r .number) n) 0 (suc (indexOf rs n))
 
 -- the row of a number, if there is one
 unfoldable pub find : List Row → ℕ → Option Row

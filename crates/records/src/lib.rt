@@ -1,0 +1,51 @@
+// A record: what an extension says, as plain values and flags, with each octet part as a place in a buffer that the
+// caller keeps. A caller may set any of it to anything; nothing here relies on its being well-shaped.
+
+// Octets of the buffer, from start on. Document 01's "octet part".
+pub struct Part {
+    pub start: usize,
+    pub len: usize,
+}
+
+// "A set holds at most 16 numbers to 2^32-1, kept with their count". Slots from count on are never looked at.
+pub struct NumberSet {
+    pub members: [u32; 16],
+    pub count: usize,
+}
+
+// Field 704. The hash is looked at only where hashed is set.
+pub struct RootOfTrust {
+    pub key: Part,
+    pub locked: bool,
+    pub state: u32,
+    pub hashed: bool,
+    pub hash: Part,
+}
+
+// One list of fields, by the rows of the schema's table. Where a row's field is absent its values are never looked at.
+// A number stands in values; an octet field's start in values and its length in sizes; each set and 704 in its own.
+pub struct FieldList {
+    pub present: [bool; 42],
+    pub values: [u64; 42],
+    pub sizes: [u64; 42],
+    pub purpose: NumberSet,
+    pub digest: NumberSet,
+    pub padding: NumberSet,
+    pub mgf: NumberSet,
+    pub root: RootOfTrust,
+}
+
+// A version and its security level: of the attestation, and of KeyMint.
+pub struct Security {
+    pub version: u32,
+    pub level: u32,
+}
+
+pub struct Record {
+    pub attestation: Security,
+    pub keymint: Security,
+    pub challenge: Part,
+    pub unique: Part,
+    pub software: FieldList,
+    pub hardware: FieldList,
+}
