@@ -35,10 +35,10 @@ unfolding holds
 holding f n h = eq-eqb (f % 2) 1 (omega arith)
 
 -- parts of a part
-rest-part : (s : List ℕ) (b end z : ℕ) → drop z (slice b end s) ≡ slice (b + z) end s
+pub rest-part : (s : List ℕ) (b end z : ℕ) → drop z (slice b end s) ≡ slice (b + z) end s
 rest-part s b end z = drop-drop z b (take end s)
 
-front-part : (s : List ℕ) (b end z : ℕ) → end ≤ length s → b + z ≤ end → take z (slice b end s) ≡ slice b (b + z) s
+pub front-part : (s : List ℕ) (b end z : ℕ) → end ≤ length s → b + z ≤ end → take z (slice b end s) ≡ slice b (b + z) s
 front-part s b end z fit h =
     let l : List ℕ = take end s in
     sym (drop-at (take b l) (take z (drop b l)) b (length-take-le b l (omega (arith, length-take end s))))

@@ -1,0 +1,31 @@
+-- An element opened: its identifier, its content's place and octets. The schema's readers are this and then their content
+-- (`element-open` in proofs/Open.antt).
+use mathlib.Core.List.{List}
+use Prim.Native.Nat.{ℕ, _<_, _≤_}
+use lib.Seq.{slice}
+use Rattle.answer.specs.Answer.{Answer, got, refused}
+use Rattle.answer.specs.Refusal.{wrongElement}
+use Rattle.codec.specs.Octets.{Taken, taken}
+use Rattle.codec.specs.Header.{Identifier, identifier}
+use Rattle.codec.specs.Element.{element}
+use Rattle.reader.specs.declared.element.Element.{Element}
+
+pub record Opened : Type 0 where
+  pub id : Identifier
+  pub body : ℕ
+  pub octets : List ℕ
+
+abbrev pub opening : Identifier → ℕ → List ℕ → Opened
+opening i q cs = record { id = i; body = q; octets = cs }
+
+unfoldable pub opened : ℕ → List ℕ → Answer (Taken Opened)
+opened = element wrongElement (λ i p q cs. got (opening i q cs))
+
+-- s are the bytes, `end` the holder's end
+abbrev pub ofElement : List ℕ → ℕ → Element → Answer (Taken Opened)
+ofElement s end (Element.Is f n b e) = got (taken (opening (identifier f n) b (slice b e s)) e (slice e end s))
+ofElement s end (Element.Refused k p) = refused k p
+
+abbrev pub ElementInside : ℕ → ℕ → Element → Type 0
+ElementInside at end (Element.Is f n b e) = (at < b) × ((b ≤ e) × (e ≤ end))
+ElementInside at end (Element.Refused k p) = Unit {0}
