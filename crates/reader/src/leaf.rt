@@ -5,12 +5,12 @@ use answer::BAD_CONTENT;
 use answer::WRONG_ELEMENT;
 ghost use mathlib.Core.Path.{_≡_};
 ghost use Prim.Native.Nat.{ℕ, _+_, _-_, _<_, _≤_};
-ghost use lib.ListN.{length};
+ghost use lib.ListN.{length, getD};
 ghost use lib.Seq.{slice};
 ghost use Rattle.codec.specs.Shortest.{bigEndian};
 ghost use Rattle.codec.specs.Integer.{integerOf};
 ghost use Rattle.schema.specs.Decode.{readOctets, readBoolean, readNull};
-ghost use Rattle.reader.specs.Leaf.{readNumber, ofValue, ofNumber, ofOctets, ofBoolean, ofNull, NumberInside, OctetsInside};
+ghost use Rattle.reader.specs.Leaf.{readNumber, withinTop, ofValue, ofNumber};
 
 // The number that content octets spell, shortest, not negative and within its top; or content that is wrong.
 pub(crate) enum Value {
@@ -42,39 +42,53 @@ fn spelled(s: &[u8], at: usize, end: usize) -> u64
     let mut value: u64 = 0;
     let mut i = at;
     while i < end {
-        value = value * 256 + s[i] as u64;
+        let x = s[i];
+        value = value * 256 + x as u64;
         i += 1;
     }
     value
 }
 
-// The content of an INTEGER or ENUMERATED from at to end. Nine octets or more that are shortest, but for a leading 00,
-// spell more than any top.
+// A number whose first octet is not 00: where it takes more than eight octets it is above any top.
+fn within_top(s: &[u8], at: usize, end: usize, top: u64) -> Value
+    requires { ⌜ (at < end) × (end ≤ length (now s)) × (1 ≤ getD (now s) at 0) ⌝ }
+    ensures { λ r. ⌜ ((p : ℕ) → ofValue p r ≡ withinTop top p (bigEndian (slice at end (now (s .entry))))) ⌝ }
+{
+    if 8 < end - at {
+        return Value::Wrong;
+    }
+    let value = spelled(s, at, end);
+    if top < value {
+        return Value::Wrong;
+    }
+    Value::Is(value)
+}
+
+// The content of an INTEGER or ENUMERATED from at to end: shortest, not negative and within its top.
 fn value_of(s: &[u8], at: usize, end: usize, top: u64) -> Value
     requires { ⌜ (at ≤ end) × (end ≤ length (now s)) ⌝ }
     ensures { λ r. ⌜ ((p : ℕ) → ofValue p r ≡ integerOf top 10 p (slice at end (now (s .entry)))) ⌝ }
 {
-    let size = end - at;
-    if size == 0 {
+    if at == end {
         return Value::Wrong;
     }
     let a = s[at];
     if 128 <= a {
         return Value::Wrong;
     }
-    let mut from = at;
-    if a == 0 && 1 < size {
-        from = at + 1;
-        if s[from] < 128 {
+    let next = at + 1;
+    if next == end {
+        if top < a as u64 {
             return Value::Wrong;
         }
+        return Value::Is(a as u64);
     }
-    if 8 < end - from {
-        return Value::Wrong;
+    let b = s[next];
+    if a == 0 {
+        if b < 128 {
+            return Value::Wrong;
+        }
+        return within_top(s, next, end, top);
     }
-    let value = spelled(s, from, end);
-    if top < value {
-        return Value::Wrong;
-    }
-    Value::Is(value)
+    within_top(s, at, end, top)
 }
