@@ -7,8 +7,9 @@ use Rattle.answer.specs.Answer.{Answer, got, refused}
 use Rattle.answer.specs.Refusal.{wrongElement}
 use Rattle.codec.specs.Octets.{Taken, taken}
 use Rattle.codec.specs.Header.{Identifier, identifier}
-use Rattle.codec.specs.Element.{element}
+use Rattle.codec.specs.Element.{element, tagged}
 use Rattle.reader.specs.declared.element.Element.{Element}
+use Rattle.reader.specs.declared.element.Tagged.{Tagged}
 
 pub record Opened : Type 0 where
   pub id : Identifier
@@ -29,3 +30,15 @@ ofElement s end (Element.Refused k p) = refused k p
 abbrev pub ElementInside : ℕ → ℕ → Element → Type 0
 ElementInside at end (Element.Is f n b e) = (at < b) × ((b ≤ e) × (e ≤ end))
 ElementInside at end (Element.Refused k p) = Unit {0}
+
+-- an element of just this identifier: its content's place and octets
+unfoldable pub openedAs : ℕ → ℕ → ℕ → List ℕ → Answer (Taken (ℕ × List ℕ))
+openedAs f n = tagged wrongElement (identifier f n) (λ p q cs. got (q, cs))
+
+abbrev pub ofTagged : List ℕ → ℕ → Tagged → Answer (Taken (ℕ × List ℕ))
+ofTagged s end (Tagged.Is b x) = got (taken (b, slice b x s) x (slice x end s))
+ofTagged s end (Tagged.Refused k p) = refused k p
+
+abbrev pub TaggedInside : ℕ → ℕ → Tagged → Type 0
+TaggedInside at end (Tagged.Is b x) = (at < b) × ((b ≤ x) × (x ≤ end))
+TaggedInside at end (Tagged.Refused k p) = Unit {0}

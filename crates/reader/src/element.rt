@@ -6,7 +6,7 @@ ghost use mathlib.Core.Path.{_≡_};
 ghost use Prim.Native.Nat.{_≤_};
 ghost use lib.ListN.{length};
 ghost use lib.Seq.{slice};
-ghost use Rattle.reader.specs.Element.{opened, ofElement, ElementInside};
+ghost use Rattle.reader.specs.Element.{opened, openedAs, ofElement, ofTagged, ElementInside, TaggedInside};
 
 // An element: its identifier, and its content from body to stop; or a refusal with its place.
 pub(crate) enum Element {
@@ -41,5 +41,36 @@ pub(crate) fn open_element(s: &[u8], at: usize, end: usize) -> Element
             body,
             stop: body + size,
         },
+    }
+}
+
+// The content of an element of a known identifier, from body to stop; or a refusal with its place.
+pub(crate) enum Tagged {
+    Is(usize, usize),
+    Refused(u8, usize),
+}
+
+// The next element, which must have just this identifier.
+pub(crate) fn open_tagged(s: &[u8], at: usize, end: usize, form: u8, number: usize) -> Tagged
+    requires { ⌜ end ≤ length (now s) ⌝ }
+    ensures is { λ r. ⌜ ofTagged (now (s .entry)) end r ≡ openedAs form number at (slice at end (now (s .entry))) ⌝ }
+    ensures inside { λ r. ⌜ TaggedInside at end r ⌝ }
+{
+    match open_element(s, at, end) {
+        Element::Refused(k, place) => Tagged::Refused(k, place),
+        Element::Is {
+            form: f,
+            number: n,
+            body,
+            stop,
+        } => {
+            if f != form {
+                return Tagged::Refused(WRONG_ELEMENT, at);
+            }
+            if n != number {
+                return Tagged::Refused(WRONG_ELEMENT, at);
+            }
+            Tagged::Is(body, stop)
+        }
     }
 }

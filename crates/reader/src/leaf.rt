@@ -1,8 +1,7 @@
 // The schema's leaves: INTEGER and ENUMERATED, OCTET STRING, BOOLEAN and NULL, each an element opened and its content.
-use crate::element::Element;
-use crate::element::open_element;
+use crate::element::Tagged;
+use crate::element::open_tagged;
 use answer::BAD_CONTENT;
-use answer::WRONG_ELEMENT;
 ghost use mathlib.Core.Path.{_≡_};
 ghost use Prim.Native.Nat.{ℕ, _+_, _-_, _<_, _≤_};
 ghost use lib.ListN.{length, getD};
@@ -10,7 +9,7 @@ ghost use lib.Seq.{slice};
 ghost use Rattle.codec.specs.Shortest.{bigEndian};
 ghost use Rattle.codec.specs.Integer.{integerOf};
 ghost use Rattle.schema.specs.Decode.{readOctets, readBoolean, readNull};
-ghost use Rattle.reader.specs.Leaf.{readNumber, withinTop, ofValue, ofNumber};
+ghost use Rattle.reader.specs.Leaf.{readNumber, withinTop, ofValue, ofNumber, ofOctets, ofBoolean, ofNull, NumberInside, OctetsInside};
 
 // The number that content octets spell, shortest, not negative and within its top; or content that is wrong.
 pub(crate) enum Value {
@@ -91,4 +90,76 @@ fn value_of(s: &[u8], at: usize, end: usize, top: u64) -> Value
         return within_top(s, next, end, top);
     }
     within_top(s, at, end, top)
+}
+
+// An INTEGER (tag 2) or ENUMERATED (tag 10), within its top.
+pub(crate) fn read_number(s: &[u8], at: usize, end: usize, tag: usize, top: u64) -> Number
+    requires { ⌜ end ≤ length (now s) ⌝ }
+    ensures is { λ r. ⌜ ofNumber (now (s .entry)) end r ≡ readNumber tag top at (slice at end (now (s .entry))) ⌝ }
+    ensures inside { λ r. ⌜ NumberInside at end r ⌝ }
+{
+    match open_tagged(s, at, end, 0, tag) {
+        Tagged::Refused(k, place) => Number::Refused(k, place),
+        Tagged::Is(body, stop) => match value_of(s, body, stop, top) {
+            Value::Wrong => Number::Refused(BAD_CONTENT, at),
+            Value::Is(n) => Number::Is(n, stop),
+        },
+    }
+}
+
+// An OCTET STRING, whose content stays where it is.
+pub(crate) fn read_octets(s: &[u8], at: usize, end: usize) -> Octets
+    requires { ⌜ end ≤ length (now s) ⌝ }
+    ensures is { λ r. ⌜ ofOctets (now (s .entry)) end r ≡ readOctets at (slice at end (now (s .entry))) ⌝ }
+    ensures inside { λ r. ⌜ OctetsInside at end r ⌝ }
+{
+    match open_tagged(s, at, end, 0, 4) {
+        Tagged::Refused(k, place) => Octets::Refused(k, place),
+        Tagged::Is(body, stop) => Octets::Is {
+            start: body,
+            len: stop - body,
+            next: stop,
+        },
+    }
+}
+
+// A BOOLEAN: 00 or FF, and nothing else.
+pub(crate) fn read_boolean(s: &[u8], at: usize, end: usize) -> Number
+    requires { ⌜ end ≤ length (now s) ⌝ }
+    ensures is { λ r. ⌜ ofBoolean (now (s .entry)) end r ≡ readBoolean at (slice at end (now (s .entry))) ⌝ }
+    ensures inside { λ r. ⌜ NumberInside at end r ⌝ }
+{
+    match open_tagged(s, at, end, 0, 1) {
+        Tagged::Refused(k, place) => Number::Refused(k, place),
+        Tagged::Is(body, stop) => {
+            if stop - body != 1 {
+                return Number::Refused(BAD_CONTENT, at);
+            }
+            let a = s[body];
+            if a == 0 {
+                return Number::Is(0, stop);
+            }
+            if a == 255 {
+                return Number::Is(1, stop);
+            }
+            Number::Refused(BAD_CONTENT, at)
+        }
+    }
+}
+
+// A NULL, which has no content.
+pub(crate) fn read_null(s: &[u8], at: usize, end: usize) -> Number
+    requires { ⌜ end ≤ length (now s) ⌝ }
+    ensures is { λ r. ⌜ ofNull (now (s .entry)) end r ≡ readNull at (slice at end (now (s .entry))) ⌝ }
+    ensures inside { λ r. ⌜ NumberInside at end r ⌝ }
+{
+    match open_tagged(s, at, end, 0, 5) {
+        Tagged::Refused(k, place) => Number::Refused(k, place),
+        Tagged::Is(body, stop) => {
+            if body == stop {
+                return Number::Is(0, stop);
+            }
+            Number::Refused(BAD_CONTENT, at)
+        }
+    }
 }
