@@ -1,3 +1,5 @@
 pub mod Open
 pub mod Spelled
 pub mod Leaves
+pub mod Chains
+pub mod Members

@@ -1,0 +1,31 @@
+-- What the set's answers say in the definitions' terms.
+use mathlib.Core.List.{List}
+use Prim.Native.Nat.{ℕ, _<_, _≤_}
+use lib.ListN.{replicate}
+use lib.Seq.{slice}
+use Rattle.answer.specs.Answer.{Answer, got, refused}
+use Rattle.codec.specs.Octets.{Taken, taken}
+use Rattle.codec.specs.Element.{chain}
+use Rattle.schema.specs.Content.{afterMember}
+use Rattle.schema.specs.Decode.{readMember}
+use Rattle.records.specs.Content.{membersOf}
+use Rattle.records.specs.declared.NumberSet.{NumberSet}
+use Rattle.reader.specs.declared.set.Step.{Step}
+
+abbrev pub emptySet : NumberSet
+emptySet = record { members = replicate 16 0; count = 0 }
+
+unfoldable pub membersFrom : ℕ → List ℕ → Answer (List ℕ)
+membersFrom p bs = chain readMember afterMember (0, 0) p bs
+
+abbrev pub ofMembers : Step → NumberSet → Answer (List ℕ)
+ofMembers (Step.Past x) g = got (membersOf g)
+ofMembers (Step.Refused k p) g = refused k p
+
+abbrev pub ofSet : List ℕ → ℕ → Step → NumberSet → Answer (Taken (List ℕ))
+ofSet s end (Step.Past x) g = got (taken (membersOf g) x (slice x end s))
+ofSet s end (Step.Refused k p) g = refused k p
+
+abbrev pub StepInside : ℕ → ℕ → Step → Type 0
+StepInside at end (Step.Past x) = (at < x) × (x ≤ end)
+StepInside at end (Step.Refused k p) = Unit {0}
