@@ -15,9 +15,14 @@ use Rattle.codec.specs.Integer.{integerOf}
 use Rattle.codec.specs.Element.{element, tagged, chain}
 use Rattle.schema.specs.Table.{top32}
 use Rattle.schema.specs.Content.{afterMember}
-use Rattle.schema.specs.Decode.{readInteger, readMember}
+use Rattle.schema.specs.Decode.{readInteger, readMember, readSet}
 use Rattle.reader.specs.Leaf.{readNumber, ofNumber, NumberInside}
-use Rattle.reader.specs.Set.{emptySet, membersFrom}
+use Rattle.reader.specs.Element.{openedAs, ofTagged, TaggedInside}
+use Rattle.reader.specs.Set.{membersFrom, ofMembers, ofSet, StepAt, StepInside}
+use Rattle.records.specs.declared.NumberSet.{NumberSet}
+use Rattle.reader.specs.declared.element.Tagged.{Tagged}
+use Rattle.reader.specs.declared.set.Step.{Step}
+use Rattle.reader.proofs.Open.{leaf-no, leaf-is, tagged-inside}
 use Rattle.reader.specs.declared.leaf.Number.{Number}
 use Rattle.reader.proofs.Chains.{Ahead, ahead-start, ahead-refused, ahead-more, ahead-end}
 
@@ -112,3 +117,23 @@ module _ (s : List ℕ) (at end : ℕ) (fit : end ≤ length s) where
 
     pub gathered-all : end ≤ place → got (take n members) ≡ membersFrom at (slice at end s)
     gathered-all h = ahead-end readMember afterMember s end fit _ (take n members) (n, low) place (g .ahead) (g .to) h
+
+-- ---- the set
+
+module _ (s : List ℕ) (at end : ℕ) (r : Tagged) (e : ofTagged s end r ≡ openedAs 1 17 at (slice at end s)) where
+  pub set-no : (k p : ℕ) → r ≡ Tagged.Refused k p → refused k p ≡ readSet at (slice at end s)
+  unfolding readSet
+  set-no k p w = sym (leaf-no _ at 1 17 s end r e k p w)
+
+  pub set-is : (b x : ℕ) (t : Step) (g : NumberSet) → r ≡ Tagged.Is b x → ofMembers t g ≡ membersFrom b (slice b x s) → StepAt x t → ofSet s end t g ≡ readSet at (slice at end s)
+  unfolding readSet
+  set-is b x t g w q i = go t i q ∙ sym (leaf-is _ at 1 17 s end r e b x w)
+    where
+      go : (t : Step) → StepAt x t → ofMembers t g ≡ membersFrom b (slice b x s) → ofSet s end t g ≡ bind (chain readMember afterMember (0, 0) b (slice b x s)) (λ a. got (taken a x (slice x end s)))
+      unfolding membersFrom bind
+      go (Step.Past y) i q = rw (← q, i) refl
+      go (Step.Refused k p) i q = rw (← q) refl
+
+  pub set-inside : (b x : ℕ) (t : Step) → TaggedInside at end r → r ≡ Tagged.Is b x → StepAt x t → StepInside at end t
+  set-inside b x (Step.Past y) i w q = let j = tagged-inside at end b x r i w in omega (arith, j)
+  set-inside b x (Step.Refused k p) i w q = tt

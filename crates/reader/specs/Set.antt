@@ -1,4 +1,5 @@
 -- What the set's answers say in the definitions' terms.
+use mathlib.Core.Path.{_≡_}
 use mathlib.Core.List.{List}
 use Prim.Native.Nat.{ℕ, _<_, _≤_}
 use lib.ListN.{replicate}
@@ -29,3 +30,7 @@ ofSet s end (Step.Refused k p) g = refused k p
 abbrev pub StepInside : ℕ → ℕ → Step → Type 0
 StepInside at end (Step.Past x) = (at < x) × (x ≤ end)
 StepInside at end (Step.Refused k p) = Unit {0}
+
+abbrev pub StepAt : ℕ → Step → Type 0
+StepAt end (Step.Past x) = x ≡ end
+StepAt end (Step.Refused k p) = Unit {0}

@@ -1,4 +1,6 @@
 // A SET OF INTEGER: at most 16 members, strictly ascending.
+use crate::element::Tagged;
+use crate::element::open_tagged;
 use crate::leaf::Number;
 use crate::leaf::read_number;
 use answer::MEMBER_ORDER;
@@ -8,7 +10,8 @@ ghost use mathlib.Core.Path.{_≡_};
 ghost use Prim.Native.Nat.{_≤_};
 ghost use lib.ListN.{length};
 ghost use lib.Seq.{slice};
-ghost use Rattle.reader.specs.Set.{ofMembers, emptySet, membersFrom};
+ghost use Rattle.schema.specs.Decode.{readSet};
+ghost use Rattle.reader.specs.Set.{ofMembers, ofSet, emptySet, membersFrom, StepAt, StepInside};
 
 // The next place; or a refusal with its place.
 pub(crate) enum Step {
@@ -34,7 +37,8 @@ pub(crate) fn empty_set() -> NumberSet
 // The members from at to end: "A member: 14, 9, 10, 13".
 fn read_members(s: &[u8], at: usize, end: usize) -> SetRead
     requires { ⌜ (at ≤ end) × (end ≤ length (now s)) ⌝ }
-    ensures { λ r. ⌜ ofMembers (r .step) (r .set) ≡ membersFrom at (slice at end (now (s .entry))) ⌝ }
+    ensures is { λ r. ⌜ ofMembers (r .step) (r .set) ≡ membersFrom at (slice at end (now (s .entry))) ⌝ }
+    ensures inside { λ r. ⌜ StepAt end (r .step) ⌝ }
 {
     let mut set = empty_set();
     let mut place = at;
@@ -72,5 +76,20 @@ fn read_members(s: &[u8], at: usize, end: usize) -> SetRead
     SetRead {
         step: Step::Past(end),
         set,
+    }
+}
+
+// A SET OF INTEGER.
+pub(crate) fn read_set(s: &[u8], at: usize, end: usize) -> SetRead
+    requires { ⌜ end ≤ length (now s) ⌝ }
+    ensures is { λ r. ⌜ ofSet (now (s .entry)) end (r .step) (r .set) ≡ readSet at (slice at end (now (s .entry))) ⌝ }
+    ensures inside { λ r. ⌜ StepInside at end (r .step) ⌝ }
+{
+    match open_tagged(s, at, end, 1, 17) {
+        Tagged::Refused(k, place) => SetRead {
+            step: Step::Refused(k, place),
+            set: empty_set(),
+        },
+        Tagged::Is(body, stop) => read_members(s, body, stop),
     }
 }

@@ -1,3 +1,4 @@
+use mathlib.Core.Path.{refl}
 use denote.Ref.{now}
 use Prim.Native.Nat.{_-_}
 use native.Mathlib.Omega.{arith}
@@ -26,7 +27,7 @@ loop-holds c = rw (c .empty-set .ensures) (gathered-none (now (c .before .before
 
 -- src/set.rt:45:13
 returns : tie.Need-returns Inv-loop μ-loop
-returns c = search gathered-many
+returns c = (search gathered-many, tt)
 
 -- src/set.rt:50:15
 read-number-requires : tie.Need-read-number-requires Inv-loop μ-loop
@@ -38,7 +39,7 @@ enum-known-k c = search needs
 
 -- src/set.rt:52:17
 returns-2 : tie.Need-returns-2 Inv-loop μ-loop
-returns-2 c = search gathered-no
+returns-2 c = (search gathered-no, tt)
 
 -- src/set.rt:57:24
 enum-known-x : tie.Need-enum-known-x Inv-loop μ-loop
@@ -46,7 +47,7 @@ enum-known-x c = search needs
 
 -- src/set.rt:59:21
 returns-3 : tie.Need-returns-3 Inv-loop μ-loop
-returns-3 c = search gathered-order
+returns-3 c = (search gathered-order, tt)
 
 -- src/set.rt:64:34
 cast-set : tie.Need-cast-set Inv-loop μ-loop
@@ -78,7 +79,7 @@ loop-again c = search gathered-more
 
 -- src/set.rt:35:1
 returns-4 : tie.Need-returns-4 Inv-loop μ-loop
-returns-4 c = search gathered-all
+returns-4 c = (search gathered-all, refl)
 
 pub read-members-spec : {M : Type 1} → statement M
 read-members-spec =
