@@ -102,7 +102,7 @@ boolean-sound p (a ∷ b ∷ r) c e = absurd (refused-got e)
 boolean-laws : Whole (λ b. pick b (255 ∷ []) (0 ∷ [])) (λ b. true) (λ p q bs. booleanOf p bs)
 boolean-laws = record { back = λ p q b t. boolean-back p b; sound = λ p q bs b o e. (tt, boolean-sound p bs b e) }
 
-boolean-small : (b : Bool) → T (lengthGood (length {A = ℕ} (pick b (255 ∷ []) (0 ∷ []))))
+pub boolean-small : (b : Bool) → T (lengthGood (length {A = ℕ} (pick b (255 ∷ []) (0 ∷ []))))
 unfolding pick
 boolean-small true = tt
 boolean-small false = tt
@@ -362,7 +362,7 @@ fieldContent-laws v low = record {
 field-parts : (g s i n : Bool) → ((g && s) && (i && n)) ≡ (i && (g && (s && n)))
 field-parts g s i n = simp (and-assoc, and-swap)
 
-field-below : (v low : ℕ) (f : Field) → T (fieldGood v low f) → T (ltb (f .number) 16384)
+pub field-below : (v low : ℕ) (f : Field) → T (fieldGood v low f) → T (ltb (f .number) 16384)
 unfolding fieldGood
 field-below v low f t = find-below rows v (f .number) (f .value) rows-below (and-right (leb low (f .number)) _ t)
 
@@ -392,7 +392,7 @@ listSmall fs = fieldsSmall fs && lengthGood (length (chainOctets fieldElement fs
 and-pairs : (a b c d : Bool) → ((a && b) && (c && d)) ≡ ((a && c) && (b && d))
 and-pairs a b c d = simp (and-assoc, and-swap)
 
-fields-parts : (v low : ℕ) (fs : List Field) → chainGood (λ s f. fieldGood v s f && fieldSmall f) afterField low fs ≡ (chainGood (fieldGood v) afterField low fs && fieldsSmall fs)
+pub fields-parts : (v low : ℕ) (fs : List Field) → chainGood (λ s f. fieldGood v s f && fieldSmall f) afterField low fs ≡ (chainGood (fieldGood v) afterField low fs && fieldsSmall fs)
 fields-parts v low [] = refl
 fields-parts v low (f ∷ fs) = rw (fields-parts v (f .number + 1) fs) (and-pairs (fieldGood v low f) (fieldSmall f) (chainGood (fieldGood v) afterField (f .number + 1) fs) (fieldsSmall fs))
 
@@ -404,7 +404,7 @@ readList-laws v =
 
 -- ---- the eight
 
-version-small : (v : ℕ) → T (knownVersion v) → v ≤ 300
+pub version-small : (v : ℕ) → T (knownVersion v) → v ≤ 300
 unfolding knownVersion
 version-small v t =
     by-le v 300 (λ h. h)
@@ -431,7 +431,7 @@ readVersion-laws =
     let h = version-small v t in
     and-both (leb v top32 && knownVersion v) _ (and-both (leb v top32) _ (le→leb v top32 (omega arith)) t) (integer-small v (omega arith)))
 
-level-small : (v : ℕ) → levelTop v ≤ top64
+pub level-small : (v : ℕ) → levelTop v ≤ top64
 unfolding levelTop
 level-small v = pick-case {A = ℕ} (leb 3 v) 2 1 refl (λ t e. rw (← e) (omega arith)) (λ t e. rw (← e) (omega arith))
 

@@ -51,8 +51,7 @@ good-octets c t =
     let t₁ = and-right (wellShaped c) _ t in
     let t₂ = and-right (octetsSmall (c .challenge)) _ t₁ in
     let t₃ = and-right (octetsSmall (c .unique)) _ t₂ in
-    let t₄ = and-right (listSmall (c .software)) _ t₃ in
-    (
+    let t₄ = and-right (listSmall (c .software)) _ t₃ in (
       octets-from (c .challenge) (and-left (octetsSmall (c .challenge)) _ t₁),
       octets-from (c .unique) (and-left (octetsSmall (c .unique)) _ t₂),
       list-from (c .software) (and-left (listSmall (c .software)) _ t₃),

@@ -3,3 +3,4 @@ pub mod Rows
 pub mod Content
 pub mod Decode
 pub mod Parts
+pub mod Count
