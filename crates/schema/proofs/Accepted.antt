@@ -42,7 +42,7 @@ accepted-exactly bs o = (
   λ y. ((y .0, countOf (y .0)), rw (← y .3) (read-encode (y .0) (y .1) (y .2) (rw (y .3) (y .4)))),
 )
 
--- Well-shaped contents of octets are equal exactly when their encodings are.
+-- Well-shaped contents of octets whose encodings are within the limit are equal exactly when those encodings are.
 pub encode-injective : (c d : Content) → T (wellShaped c) → T (wellShaped d) → ContentOctets c → ContentOctets d → length (encode c) ≤ 8192 → length (encode d) ≤ 8192
     → (c ≡ d) ↔ (encode c ≡ encode d)
 encode-injective c d t u o p h l = (λ e. ap encode e, λ e. got-inj (sym (decode-back c (shaped-good c t o h)) ∙ ap decode e ∙ decode-back d (shaped-good d u p l)))

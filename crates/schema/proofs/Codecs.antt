@@ -255,7 +255,7 @@ valueSmall (trust r) = rootSmall r
 abbrev pub valueFits : ℕ → Kind → Value → Bool
 valueFits v k x = valueGood v k x && valueSmall x
 
--- what was written of a value is what its constructor holds
+-- a value that fits a kind has that kind's constructor, and is small under it
 module _ (v : ℕ) (k : Kind) (x : Value) (t : T (valueFits v k x)) where
   is : Shaped v k x
   is = shaped v k x (and-left (valueGood v k x) _ t)
