@@ -125,14 +125,14 @@ module _ (s : List ℕ) (at end : ℕ) (r : Tagged) (e : ofTagged s end r ≡ op
   unfolding readSet
   set-no k p w = sym (leaf-no _ at 1 17 s end r e k p w)
 
+  members-as-set : (b x : ℕ) (t : Step) (g : NumberSet) → ofMembers t g ≡ membersFrom b (slice b x s) → StepAt x t → ofSet s end t g ≡ bind (membersFrom b (slice b x s)) (λ a. got (taken a x (slice x end s)))
+  unfolding bind
+  members-as-set b x (Step.Past y) g q i = rw (← q, i) refl
+  members-as-set b x (Step.Refused k p) g q i = rw (← q) refl
+
   pub set-is : (b x : ℕ) (t : Step) (g : NumberSet) → r ≡ Tagged.Is b x → ofMembers t g ≡ membersFrom b (slice b x s) → StepAt x t → ofSet s end t g ≡ readSet at (slice at end s)
-  unfolding readSet
-  set-is b x t g w q i = go t i q ∙ sym (leaf-is _ at 1 17 s end r e b x w)
-    where
-      go : (t : Step) → StepAt x t → ofMembers t g ≡ membersFrom b (slice b x s) → ofSet s end t g ≡ bind (chain readMember afterMember (0, 0) b (slice b x s)) (λ a. got (taken a x (slice x end s)))
-      unfolding membersFrom bind
-      go (Step.Past y) i q = rw (← q, i) refl
-      go (Step.Refused k p) i q = rw (← q) refl
+  unfolding readSet membersFrom
+  set-is b x t g w q i = members-as-set b x t g q i ∙ sym (leaf-is _ at 1 17 s end r e b x w)
 
   pub set-inside : (b x : ℕ) (t : Step) → TaggedInside at end r → r ≡ Tagged.Is b x → StepAt x t → StepInside at end t
   set-inside b x (Step.Past y) i w q = let j = tagged-inside at end b x r i w in omega (arith, j)

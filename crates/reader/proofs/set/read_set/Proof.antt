@@ -1,3 +1,6 @@
+use native.Mathlib.Omega.{arith}
+use Rattle.reader.proofs.Open.{tagged-inside}
+use Rattle.reader.proofs.Members.{set-no, set-is, set-inside}
 use borrow.Author.Needs.{needs}
 use Rattle.reader.proofs.set.read_set.Statement.{statement}
 use Rattle.reader.proofs.set.read_set.Tie as tie
@@ -25,15 +28,15 @@ enum-known-body c = search needs
 
 -- src/set.rt:93:35
 read-members-requires : tie.Need-read-members-requires
-read-members-requires c κs = search needs
+read-members-requires c κs = omega (arith, tagged-inside (c .before .before .before .before .before .args .at) (c .before .before .before .before .before .args .end) _ _ _ (c .before .before .before .open-tagged .ensures .1) (c .before .body .given .1))
 
 -- src/set.rt:83:1
 returns : tie.Need-returns
-returns c = search needs
+returns c = (search (set-no, set-is), search (needs, set-inside))
 
 -- src/set.rt:83:1
 returns-2 : tie.Need-returns-2
-returns-2 c = search needs
+returns-2 c = (search (set-no, set-is), search (needs, set-inside))
 
 pub read-set-spec : {M : Type 1} → statement M
 read-set-spec =
