@@ -3,3 +3,5 @@ pub mod Spelled
 pub mod Leaves
 pub mod Chains
 pub mod Members
+pub mod Exact
+pub mod Contents

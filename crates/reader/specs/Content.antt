@@ -1,0 +1,37 @@
+-- What a field's content, as the code answers it, says in the definitions' terms.
+use mathlib.Core.Bool.{Bool, true, false}
+use mathlib.Core.List.{List}
+use Prim.Native.Nat.{ℕ}
+use lib.Dec.{eqb}
+use Rattle.answer.specs.Answer.{Answer, got, refused, pick}
+use Rattle.schema.specs.Table.{Kind, set, number32, number64, null, octets, root}
+use Rattle.schema.specs.Content.{Value, num, nul, oct, nums, trust}
+use Rattle.records.specs.Content.{octetsAt, membersOf, rootOf}
+use Rattle.records.specs.declared.RootOfTrust.{RootOfTrust}
+use Rattle.reader.specs.Set.{emptySet}
+use Rattle.reader.specs.declared.set.Step.{Step}
+use Rattle.reader.specs.declared.content.ContentRead.{ContentRead}
+
+-- the value, where the step is past it
+abbrev pub ofStepped : {A : Type 0} → Step → A → Answer A
+ofStepped (Step.Past x) a = got a
+ofStepped (Step.Refused k p) a = refused k p
+
+-- past, where nothing follows; else an extra element there
+abbrev pub endStep : ℕ → ℕ → Step
+endStep next end = pick (eqb next end) (Step.Past next) (Step.Refused 9 next)
+
+abbrev pub emptyRoot : RootOfTrust
+emptyRoot = record { key = record { start = 0; len = 0 }; locked = false; state = 0; hashed = false; hash = record { start = 0; len = 0 } }
+
+abbrev pub plainContent : Step → ℕ → ℕ → ContentRead
+plainContent t v z = record { step = t; value = v; size = z; set = emptySet; root = emptyRoot }
+
+-- the value that it is, by the field's kind
+unfoldable pub contentValue : List ℕ → Kind → ContentRead → Value
+contentValue s number32 c = num (c .value)
+contentValue s number64 c = num (c .value)
+contentValue s null c = nul
+contentValue s octets c = oct (octetsAt s (c .value) (c .size))
+contentValue s set c = nums (membersOf (c .set))
+contentValue s root c = trust (rootOf s (c .root))

@@ -1,0 +1,115 @@
+// What an explicit tag holds: exactly one element of the field's kind.
+use crate::leaf::Number;
+use crate::leaf::Octets;
+use crate::leaf::read_null;
+use crate::leaf::read_number;
+use crate::leaf::read_octets;
+use crate::set::Step;
+use crate::set::empty_set;
+use crate::set::read_set;
+use answer::WRONG_ELEMENT;
+use records::NumberSet;
+use records::Part;
+use records::RootOfTrust;
+ghost use mathlib.Core.Path.{_≡_};
+ghost use Prim.Native.Nat.{_≤_};
+ghost use lib.ListN.{length};
+ghost use lib.Seq.{slice};
+ghost use Rattle.codec.specs.Element.{exactly};
+ghost use Rattle.schema.specs.Decode.{readOctets, readNull, readSet};
+ghost use Rattle.records.specs.Content.{octetsAt, membersOf};
+ghost use Rattle.reader.specs.Leaf.{readNumber};
+ghost use Rattle.reader.specs.Content.{ofStepped, emptyRoot, endStep, plainContent};
+
+// A field's content, whatever its kind: a number; or a part of the bytes, its start in value; or a set; or 704's.
+pub(crate) struct ContentRead {
+    pub step: Step,
+    pub value: u64,
+    pub size: u64,
+    pub set: NumberSet,
+    pub root: RootOfTrust,
+}
+
+pub(crate) fn empty_root() -> RootOfTrust
+    ensures { λ r. ⌜ r ≡ emptyRoot ⌝ }
+{
+    let none = Part { start: 0, len: 0 };
+    RootOfTrust {
+        key: none,
+        locked: false,
+        state: 0,
+        hashed: false,
+        hash: none,
+    }
+}
+
+fn plain(step: Step, value: u64, size: u64) -> ContentRead
+    ensures { λ r. ⌜ r ≡ plainContent step value size ⌝ }
+{
+    ContentRead {
+        step,
+        value,
+        size,
+        set: empty_set(),
+        root: empty_root(),
+    }
+}
+
+// Past a content that ends where its holder does; what stands after it is an extra element.
+fn at_end(next: usize, end: usize) -> Step
+    ensures { λ r. ⌜ r ≡ endStep next end ⌝ }
+{
+    if next == end {
+        return Step::Past(next);
+    }
+    Step::Refused(WRONG_ELEMENT, next)
+}
+
+fn number_content(s: &[u8], at: usize, end: usize, top: u64) -> ContentRead
+    requires { ⌜ end ≤ length (now s) ⌝ }
+    ensures { λ r. ⌜ ofStepped (r .step) (r .value) ≡ exactly 9 (readNumber 2 top) at (slice at end (now (s .entry))) ⌝ }
+{
+    match read_number(s, at, end, 2, top) {
+        Number::Refused(k, place) => plain(Step::Refused(k, place), 0, 0),
+        Number::Is(n, next) => plain(at_end(next, end), n, 0),
+    }
+}
+
+fn null_content(s: &[u8], at: usize, end: usize) -> ContentRead
+    requires { ⌜ end ≤ length (now s) ⌝ }
+    ensures { λ r. ⌜ ofStepped (r .step) tt ≡ exactly 9 readNull at (slice at end (now (s .entry))) ⌝ }
+{
+    match read_null(s, at, end) {
+        Number::Refused(k, place) => plain(Step::Refused(k, place), 0, 0),
+        Number::Is(_, next) => plain(at_end(next, end), 0, 0),
+    }
+}
+
+fn octets_content(s: &[u8], at: usize, end: usize) -> ContentRead
+    requires { ⌜ end ≤ length (now s) ⌝ }
+    ensures { λ r. ⌜ ofStepped (r .step) (octetsAt (now (s .entry)) (r .value) (r .size)) ≡ exactly 9 readOctets at (slice at end (now (s .entry))) ⌝ }
+{
+    match read_octets(s, at, end) {
+        Octets::Refused(k, place) => plain(Step::Refused(k, place), 0, 0),
+        Octets::Is { start, len, next } => plain(at_end(next, end), start as u64, len as u64),
+    }
+}
+
+fn set_content(s: &[u8], at: usize, end: usize) -> ContentRead
+    requires { ⌜ end ≤ length (now s) ⌝ }
+    ensures { λ r. ⌜ ofStepped (r .step) (membersOf (r .set)) ≡ exactly 9 readSet at (slice at end (now (s .entry))) ⌝ }
+{
+    let got = read_set(s, at, end);
+    let set = got.set;
+    let step = got.step;
+    match step {
+        Step::Refused(k, place) => plain(Step::Refused(k, place), 0, 0),
+        Step::Past(next) => ContentRead {
+            step: at_end(next, end),
+            value: 0,
+            size: 0,
+            set,
+            root: empty_root(),
+        },
+    }
+}
