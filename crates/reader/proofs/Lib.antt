@@ -5,3 +5,4 @@ pub mod Chains
 pub mod Members
 pub mod Exact
 pub mod Contents
+pub mod FieldHeads

@@ -1,0 +1,86 @@
+-- A field, up to its content: one law for each answer. Assumes nothing.
+use mathlib.Core.Path.{_≡_, refl, sym, ap, subst, _∙_}
+use mathlib.Core.Bool.{Bool, true, false}
+use mathlib.Core.Option.{Option, none, some}
+use mathlib.Core.List.{List}
+use Prim.Native.Nat.{ℕ, _<_, _≤_}
+use native.Mathlib.Omega.{arith}
+use lib.ListN.{length}
+use lib.Seq.{slice}
+use lib.Dec.{leb, eqb}
+use borrow.Author.Tests.{le-leb, lt-leb, eq-eqb, ne-eqb}
+use Rattle.answer.specs.Answer.{Answer, got, refused, guard, bind}
+use Rattle.codec.specs.Octets.{Taken, taken}
+use Rattle.codec.specs.Header.{identifier}
+use Rattle.codec.specs.Element.{element}
+use Rattle.schema.specs.Table.{Row, row, null, rows, rowAt, indexOf, find, heldIn}
+use Rattle.schema.specs.Content.{Value, Field, field}
+use Rattle.schema.specs.Decode.{contentOf, rowContent, fieldContent, readField}
+use Rattle.schema.specs.Rows.{ofRow}
+use Rattle.schema.specs.declared.Row as code
+use Rattle.schema.proofs.Table.{find-place, find-none}
+use Rattle.reader.specs.Element.{Opened, opened, ofElement, ElementInside}
+use Rattle.reader.specs.Fields.{FieldAt}
+use Rattle.reader.specs.declared.element.Element.{Element}
+use Rattle.reader.proofs.Open.{element-open, contentAfter, element-inside}
+
+rows-length : length rows ≡ 42
+unfolding rows
+rows-length = refl
+
+module _ (s : List ℕ) (at end v low : ℕ) (r : Element) (e : ofElement s end r ≡ opened at (slice at end s)) where
+  pub field-no : (k p : ℕ) → r ≡ Element.Refused k p → readField v low at (slice at end s) ≡ refused k p
+  unfolding readField bind
+  field-no k p w = rw (element-open, ← e, w) refl
+
+  module _ (f n b x : ℕ) (w : r ≡ Element.Is f n b x) where
+    opens : readField v low at (slice at end s) ≡ bind (fieldContent v low (identifier f n) at b (slice b x s)) (λ a. got (taken a x (slice x end s)))
+    unfolding readField bind contentAfter
+    opens = rw (element-open, ← e, w) refl
+
+    pub field-form : (f ≡ 5 → ⊥) → readField v low at (slice at end s) ≡ refused 9 at
+    unfolding fieldContent guard bind
+    field-form h = opens ∙ rw (ne-eqb f 5 h) refl
+
+    module _ (h : f ≡ 5) where
+      tagged : readField v low at (slice at end s) ≡ bind (rowContent v low n (find rows n) at b (slice b x s)) (λ a. got (taken a x (slice x end s)))
+      unfolding fieldContent guard
+      tagged = opens ∙ rw (eq-eqb f 5 h) refl
+
+      pub field-unknown : (i : ℕ) → i ≡ indexOf rows n → 42 ≤ i → readField v low at (slice at end s) ≡ refused 11 at
+      unfolding rowContent bind
+      field-unknown i q l = tagged ∙ rw (find-none rows n (omega (arith, rows-length, q))) refl
+
+      module _ (i : ℕ) (q : i ≡ indexOf rows n) (l : i < 42) (c : code.Row) (qc : ofRow c ≡ rowAt i) (b₁ : Bool) (qb : b₁ ≡ heldIn v (ofRow c)) where
+        place : (find rows n ≡ some (rowAt i)) × (rowAt i .number ≡ n)
+        place = rw q (find-place rows n (row 0 null 1 0) (omega (arith, rows-length, q)))
+
+        held : heldIn v (rowAt i) ≡ b₁
+        held = ap (heldIn v) (sym qc) ∙ sym qb
+
+        pub field-version : b₁ ≡ false → readField v low at (slice at end s) ≡ refused 11 at
+        unfolding rowContent guard bind
+        field-version z = tagged ∙ rw (place .0, held, z) refl
+
+        pub field-order : b₁ ≡ true → n < low → readField v low at (slice at end s) ≡ refused 12 at
+        unfolding rowContent guard bind
+        field-order z o = tagged ∙ rw (place .0, held, z, lt-leb low n o) refl
+
+        joined : (M : Answer Value) → bind (bind M (λ y. got (field n y))) (λ a. got (taken a x (slice x end s))) ≡ bind M (λ y. got (taken (field n y) x (slice x end s)))
+        unfolding bind
+        joined (got y) = refl
+        joined (refused k p) = refl
+
+        pub field-is : b₁ ≡ true → low ≤ n → ElementInside at end r → FieldAt s at end v low i n b x
+        unfolding rowContent guard
+        field-is z o j =
+            let k = element-inside at end f n b x r j w in
+            record {
+              inTable = l;
+              isRow = place .1;
+              above = o;
+              body = k .0;
+              stop = k .1 .0;
+              inside = k .1 .1;
+              reads = tagged ∙ (rw (place .0, held, z, le-leb low n o) refl ∙ joined (contentOf v (rowAt i .kind) at b (slice b x s)));
+            }
