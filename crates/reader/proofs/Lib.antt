@@ -6,3 +6,4 @@ pub mod Members
 pub mod Exact
 pub mod Contents
 pub mod FieldHeads
+pub mod Lists

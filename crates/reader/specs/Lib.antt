@@ -3,3 +3,4 @@ pub mod Leaf
 pub mod Set
 pub mod Content
 pub mod Fields
+pub mod Lists

@@ -1,0 +1,186 @@
+-- Storing a field: at its row the list then has it, and every other row is as it was; so the list's fields are those
+-- before and the new one, since rows above it are absent. Assumes nothing.
+use mathlib.Core.Path.{_≡_, refl, sym, ap, subst, _∙_}
+use mathlib.Core.Bool.{Bool, true, false, _&&_, _||_}
+use mathlib.Core.List.{List, [], _∷_, _++_, append-assoc, append-nil}
+use Prim.Native.Nat.{ℕ, zero, suc, _+_, _-_, _<_, _≤_}
+use native.Mathlib.Omega.{arith}
+use native.Mathlib.Nat.{add-zero, add-suc, zero-add}
+use lib.Dec.{T, eqb, eqb→eq}
+use lib.ListN.{length, getD, set, replicate, length-set, getD-replicate}
+use lib.Seq.{slice, getD-set-same, getD-set-other}
+use borrow.Author.Tests.{eq-eqb, ne-eqb, eqb-true, eqb-false}
+use Rattle.answer.specs.Answer.{Answer, got, refused, pick}
+use Rattle.answer.proofs.Logic.{and-left, and-right}
+use Rattle.schema.specs.Table as table
+use Rattle.schema.specs.Table.{Kind, number32, number64, null, octets, root, Row, row, rows, rowAt}
+use Rattle.schema.specs.Content.{Value, num, nul, oct, nums, trust, Field, field}
+use Rattle.schema.proofs.Table.{above}
+use Rattle.records.specs.Content.{octetsAt, membersOf, rootOf, setAt, valueAt, fieldAt, upTo, fieldsOf}
+use Rattle.records.specs.declared.FieldList.{FieldList}
+use Rattle.reader.specs.Content.{contentValue}
+use Rattle.reader.specs.Lists.{emptyList, withField}
+use Rattle.reader.specs.declared.content.ContentRead.{ContentRead}
+
+-- the arrays of a list have their lengths
+pub record Sized (l : FieldList) : Type 0 where
+  pub present : length (l .present) ≡ 42
+  pub values : length (l .values) ≡ 42
+  pub sizes : length (l .sizes) ≡ 42
+
+-- ---- rows: which have a set, and which is 704's, by one computed test
+
+isSet : Kind → Bool
+isSet table.set = true
+isSet number32 = false
+isSet number64 = false
+isSet null = false
+isSet octets = false
+isSet root = false
+
+isRoot : Kind → Bool
+isRoot table.set = false
+isRoot number32 = false
+isRoot number64 = false
+isRoot null = false
+isRoot octets = false
+isRoot root = true
+
+-- a row's kind goes with its place
+placed : ℕ → Kind → Bool
+placed i k = pick (isSet k) (eqb i 0 || eqb i 3 || eqb i 4 || eqb i 7) (pick (isRoot k) (eqb i 26) true)
+
+every : ℕ → List Row → Bool
+every i [] = true
+every i (r ∷ rs) = placed i (r .kind) && every (suc i) rs
+
+every-at : (i : ℕ) (l : List Row) (d : Row) → T (every i l) → (k : ℕ) → k < length l → T (placed (i + k) (getD l k d .kind))
+unfolding every
+every-at i [] d t k h = absurd (omega arith)
+every-at i (r ∷ rs) d t zero h = rw add-zero (and-left (placed i (r .kind)) _ t)
+every-at i (r ∷ rs) d t (suc k) h =
+    let e : i + suc k ≡ suc i + k = omega arith in
+    rw e (every-at (suc i) rs d (and-right (placed i (r .kind)) _ t) k (omega arith))
+
+kind-placed : (k : ℕ) → k < 42 → T (placed k (rowAt k .kind))
+unfolding rows every placed isSet isRoot pick
+kind-placed k h = rw zero-add at (every-at 0 rows (row 0 null 1 0) tt k h)
+
+or-case {ℓ} : {X : Type ℓ} (a b : Bool) → T (a || b) → (T a → X) → (T b → X) → X
+or-case true b t f g = f tt
+or-case false b t f g = g t
+
+by-set {ℓ} : {X : Type ℓ} (k : ℕ) → k < 42 → rowAt k .kind ≡ table.set → (k ≡ 0 → X) → (k ≡ 3 → X) → (k ≡ 4 → X) → (k ≡ 7 → X) → X
+unfolding placed isSet pick
+by-set k h e f₀ f₃ f₄ f₇ =
+    let t : T (eqb k 0 || eqb k 3 || eqb k 4 || eqb k 7) = subst (λ (j : Kind). T (placed k j)) e (kind-placed k h) in
+    or-case (eqb k 0 || eqb k 3 || eqb k 4) (eqb k 7) t
+    (λ t₁. or-case (eqb k 0 || eqb k 3) (eqb k 4) t₁
+    (λ t₂. or-case (eqb k 0) (eqb k 3) t₂ (λ u. f₀ (eqb→eq k 0 u)) (λ u. f₃ (eqb→eq k 3 u)))
+    (λ u. f₄ (eqb→eq k 4 u)))
+    (λ u. f₇ (eqb→eq k 7 u))
+
+by-root : (k : ℕ) → k < 42 → rowAt k .kind ≡ root → k ≡ 26
+unfolding placed isSet isRoot pick
+by-root k h e = eqb→eq k 26 (subst (λ (j : Kind). T (placed k j)) e (kind-placed k h))
+
+-- ---- a stored field
+
+module _ (l : FieldList) (s : List ℕ) (r : ℕ) (c : ContentRead) (z : Sized l) (h : r < 42) where
+  same-set : rowAt r .kind ≡ table.set → setAt (withField l r c) (rowAt r .number) ≡ c .set
+  unfolding rows pick
+  same-set e = by-set r h e (λ q. rw q refl) (λ q. rw q refl) (λ q. rw q refl) (λ q. rw q refl)
+
+  same-root : rowAt r .kind ≡ root → withField l r c .root ≡ c .root
+  unfolding pick
+  same-root e = rw (by-root r h e) refl
+
+  same-value : (k : Kind) → rowAt r .kind ≡ k → valueAt (withField l r c) s (rowAt r .number) k r ≡ contentValue s k c
+  unfolding valueAt contentValue
+  same-value number32 e = rw (getD-set-same (l .values) r (c .value) 0 (omega (arith, z .values))) refl
+  same-value number64 e = rw (getD-set-same (l .values) r (c .value) 0 (omega (arith, z .values))) refl
+  same-value null e = refl
+  same-value octets e = rw (getD-set-same (l .values) r (c .value) 0 (omega (arith, z .values)), getD-set-same (l .sizes) r (c .size) 0 (omega (arith, z .sizes))) refl
+  same-value table.set e = rw (same-set e) refl
+  same-value root e = rw (same-root e) refl
+
+  pub stored-same : fieldAt (withField l r c) s r ≡ field (rowAt r .number) (contentValue s (rowAt r .kind) c) ∷ []
+  unfolding fieldAt pick
+  stored-same = rw (getD-set-same (l .present) r true false (omega (arith, z .present)), same-value (rowAt r .kind) refl) refl
+
+  module _ (k : ℕ) (b : k < 42) (n : k ≡ r → ⊥) where
+    other-set : rowAt k .kind ≡ table.set → setAt (withField l r c) (rowAt k .number) ≡ setAt l (rowAt k .number)
+    unfolding rows pick
+    other-set e =
+        by-set k b e
+        (λ q. rw (q, ne-eqb r 0 (λ u. n (q ∙ sym u))) refl)
+        (λ q. rw (q, ne-eqb r 3 (λ u. n (q ∙ sym u))) refl)
+        (λ q. rw (q, ne-eqb r 4 (λ u. n (q ∙ sym u))) refl)
+        (λ q. rw (q, ne-eqb r 7 (λ u. n (q ∙ sym u))) refl)
+
+    other-root : rowAt k .kind ≡ root → withField l r c .root ≡ l .root
+    unfolding pick
+    other-root e = rw (ne-eqb r 26 (λ u. n (by-root k b e ∙ sym u))) refl
+
+    other-value : (j : Kind) → rowAt k .kind ≡ j → valueAt (withField l r c) s (rowAt k .number) j k ≡ valueAt l s (rowAt k .number) j k
+    unfolding valueAt
+    other-value number32 e = rw (getD-set-other (l .values) r k (c .value) 0 n) refl
+    other-value number64 e = rw (getD-set-other (l .values) r k (c .value) 0 n) refl
+    other-value null e = refl
+    other-value octets e = rw (getD-set-other (l .values) r k (c .value) 0 n, getD-set-other (l .sizes) r k (c .size) 0 n) refl
+    other-value table.set e = rw (other-set e) refl
+    other-value root e = rw (other-root e) refl
+
+    pub stored-other : fieldAt (withField l r c) s k ≡ fieldAt l s k
+    unfolding fieldAt
+    stored-other = rw (getD-set-other (l .present) r k true false n, other-value (rowAt k .kind) refl) refl
+
+  pub stored-sized : Sized (withField l r c)
+  stored-sized = record {
+    present = length-set (l .present) r true ∙ z .present;
+    values = length-set (l .values) r (c .value) ∙ z .values;
+    sizes = length-set (l .sizes) r (c .size) ∙ z .sizes;
+  }
+
+-- ---- the fields of a list, row by row
+
+upTo-agree : (F G : ℕ → List Field) (n : ℕ) → ((k : ℕ) → k < n → F k ≡ G k) → upTo F n ≡ upTo G n
+unfolding upTo
+upTo-agree F G zero h = refl
+upTo-agree F G (suc n) h = rw (upTo-agree F G n (λ k p. h k (omega arith)), h n (omega arith))
+
+upTo-none : (F : ℕ → List Field) (m d : ℕ) → ((k : ℕ) → m ≤ k → k < m + d → F k ≡ []) → upTo F (m + d) ≡ upTo F m
+unfolding upTo
+upTo-none F m zero h = rw add-zero
+upTo-none F m (suc d) h = rw (add-suc, h (m + d) (omega arith) (omega arith), append-nil) (upTo-none F m d (λ k p q. h k p (omega arith)))
+
+upTo-to : (F : ℕ → List Field) (m n : ℕ) → m ≤ n → ((k : ℕ) → m ≤ k → k < n → F k ≡ []) → upTo F n ≡ upTo F m
+upTo-to F m n p h = let e : m + (n - m) ≡ n = omega arith in subst (λ (x : ℕ). upTo F x ≡ upTo F m) e (upTo-none F m (n - m) (λ k a b. h k a (omega arith)))
+
+-- one row more, with none above it
+pub upTo-one : (F G : ℕ → List Field) (n r : ℕ) → r < n → ((k : ℕ) → k < n → (k ≡ r → ⊥) → G k ≡ F k) → ((k : ℕ) → r ≤ k → k < n → F k ≡ []) → upTo G n ≡ upTo F n ++ G r
+unfolding upTo
+upTo-one F G n r h same none =
+    let up : upTo G n ≡ upTo G (suc r) = upTo-to G (suc r) n h (λ k p q. same k q (omega arith) ∙ none k (omega arith) q) in
+    let lo : upTo G r ≡ upTo F r = upTo-agree G F r (λ k p. same k (omega arith) (omega arith)) in
+    let dn : upTo F n ≡ upTo F r = upTo-to F r n (omega arith) none in
+    up ∙ step G r ∙ rw (lo, dn) refl
+  where
+    step : (G : ℕ → List Field) (r : ℕ) → upTo G (suc r) ≡ upTo G r ++ G r
+    step G r = refl
+
+-- ---- an empty list
+
+pub empty-none : (s : List ℕ) (k : ℕ) → k < 42 → fieldAt emptyList s k ≡ []
+unfolding fieldAt pick
+empty-none s k h = rw (getD-replicate 42 k false false h) refl
+
+pub empty-fields : (s : List ℕ) → fieldsOf emptyList s ≡ []
+unfolding upTo
+empty-fields s = upTo-to (fieldAt emptyList s) 0 42 (omega arith) (λ k p q. empty-none s k q) ∙ zero-rows (fieldAt emptyList s)
+  where
+    zero-rows : (F : ℕ → List Field) → upTo F 0 ≡ []
+    zero-rows F = refl
+
+pub empty-sized : Sized emptyList
+empty-sized = record { present = refl; values = refl; sizes = refl }

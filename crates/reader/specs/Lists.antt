@@ -1,0 +1,50 @@
+-- A list as the code fills it: what an empty one is, and what storing a field leaves.
+use mathlib.Core.Bool.{Bool, true, false}
+use mathlib.Core.List.{List}
+use Prim.Native.Nat.{ℕ}
+use lib.Dec.{eqb}
+use lib.ListN.{set, replicate}
+use lib.Seq.{slice}
+use Rattle.answer.specs.Answer.{Answer, got, refused, pick}
+use Rattle.codec.specs.Element.{chain}
+use Rattle.schema.specs.Content.{Field, afterField}
+use Rattle.schema.specs.Decode.{readField}
+use Rattle.records.specs.Content.{fieldsOf}
+use Rattle.records.specs.declared.FieldList.{FieldList}
+use Rattle.reader.specs.Set.{emptySet}
+use Rattle.reader.specs.Content.{emptyRoot}
+use Rattle.reader.specs.declared.set.Step.{Step}
+use Rattle.reader.specs.declared.content.ContentRead.{ContentRead}
+
+abbrev pub emptyList : FieldList
+emptyList = record {
+  present = replicate 42 false;
+  values = replicate 42 0;
+  sizes = replicate 42 0;
+  purpose = emptySet;
+  digest = emptySet;
+  padding = emptySet;
+  mgf = emptySet;
+  root = emptyRoot;
+}
+
+-- the list with row present, its number or part stored; a set and 704 in their own place
+abbrev pub withField : FieldList → ℕ → ContentRead → FieldList
+withField l row c = record {
+  present = set (l .present) row true;
+  values = set (l .values) row (c .value);
+  sizes = set (l .sizes) row (c .size);
+  purpose = pick (eqb row 0) (c .set) (l .purpose);
+  digest = pick (eqb row 3) (c .set) (l .digest);
+  padding = pick (eqb row 4) (c .set) (l .padding);
+  mgf = pick (eqb row 7) (c .set) (l .mgf);
+  root = pick (eqb row 26) (c .root) (l .root);
+}
+
+-- the fields of a list's content, read one after the other
+unfoldable pub fieldsFrom : ℕ → ℕ → List ℕ → Answer (List Field)
+fieldsFrom v p bs = chain (readField v) afterField 0 p bs
+
+abbrev pub ofFields : List ℕ → Step → FieldList → Answer (List Field)
+ofFields s (Step.Past x) l = got (fieldsOf l s)
+ofFields s (Step.Refused k p) l = refused k p
