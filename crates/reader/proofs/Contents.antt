@@ -1,5 +1,6 @@
 -- A field's content as the code answers it, one law for a refusal and one for a value of each kind. Assumes nothing.
 use mathlib.Core.Path.{_≡_, refl, sym, subst, _∙_}
+use mathlib.Core.Bool.{Bool}
 use mathlib.Core.List.{List}
 use Prim.Native.Nat.{ℕ, _<_, _≤_}
 use native.Mathlib.Omega.{arith}
@@ -7,18 +8,26 @@ use lib.Dec.{eqb}
 use lib.ListN.{length}
 use lib.Seq.{slice}
 use borrow.Author.Tests.{eq-eqb, ne-eqb}
-use Rattle.answer.specs.Answer.{Answer, got, refused, pick}
+use Rattle.answer.specs.Answer.{Answer, got, refused, bind, pick}
 use Rattle.codec.specs.Octets.{Taken, taken}
-use Rattle.codec.specs.Element.{exactly}
-use Rattle.schema.specs.Decode.{readOctets, readNull, readSet}
+use Rattle.codec.specs.Element.{exactly, under}
+use Rattle.schema.specs.Table as table
+use Rattle.schema.specs.Table.{top32, top64}
+use Rattle.schema.specs.Rows.{ofKind}
+use Rattle.schema.specs.Content.{num, nul, oct, nums, trust}
+use Rattle.schema.specs.Decode as decode
+use Rattle.schema.specs.declared.Kind.{Kind}
+use Rattle.schema.specs.Decode.{readInteger, readOctets, readNull, readSet, readRoot, contentOf}
 use Rattle.records.specs.Content.{octetsAt, membersOf}
 use Rattle.records.specs.declared.NumberSet.{NumberSet}
 use Rattle.records.specs.declared.RootOfTrust.{RootOfTrust}
 use Rattle.reader.specs.Leaf.{readNumber, ofNumber, ofNull, ofOctets, NumberInside, OctetsInside}
 use Rattle.reader.specs.Set.{emptySet, ofSet, StepInside}
-use Rattle.reader.specs.Content.{ofStepped, endStep, emptyRoot, plainContent}
+use Rattle.reader.specs.Root.{Trust, trustOf, ofRoot, RootInside}
+use Rattle.reader.specs.Content.{ofStepped, endStep, emptyRoot, plainContent, contentValue}
 use Rattle.reader.specs.declared.leaf.Number.{Number}
 use Rattle.reader.specs.declared.leaf.Octets.{Octets}
+use Rattle.reader.specs.declared.root.Root.{Root}
 use Rattle.reader.specs.declared.set.Step.{Step}
 use Rattle.reader.specs.declared.content.ContentRead.{ContentRead}
 use Rattle.reader.proofs.Exact.{exact-no, exact-is}
@@ -70,3 +79,50 @@ module _ (s : List ℕ) (at end : ℕ) (fit : end ≤ length s) (t : Step) (g : 
   set-content-is x u i w q =
       let j : (at < x) × (x ≤ end) = subst (StepInside at end) w i in
       rw q (exact-is readSet s at end fit (membersOf g) x (sym (rw w at e)) (j .1))
+
+module _ (s : List ℕ) (at end : ℕ) (fit : end ≤ length s) (hash : Bool) (r : Root) (e : ofRoot s end r ≡ readRoot hash at (slice at end s)) where
+  pub root-content-no : (k p : ℕ) (c : ContentRead) → r ≡ Root.Refused k p → c ≡ plainContent (Step.Refused k p) 0 0 → ofStepped (c .step) (trustOf s (c .root)) ≡ exactly 9 (readRoot hash) at (slice at end s)
+  root-content-no k p c w q = rw q (sym (exact-no (readRoot hash) s at end fit k p (sym (rw w at e))))
+
+  pub root-content-is : (t : RootOfTrust) (x : ℕ) (u : Step) → RootInside at end hash r → r ≡ Root.Is t x → u ≡ endStep x end → ofStepped u (trustOf s t) ≡ exactly 9 (readRoot hash) at (slice at end s)
+  root-content-is t x u i w q =
+      let j = subst (RootInside at end hash) w i in
+      rw q (exact-is (readRoot hash) s at end fit (trustOf s t) x (sym (rw w at e)) (j .1 .0))
+
+-- ---- by the kind
+
+module _ (s : List ℕ) (at end : ℕ) (c : ContentRead) where
+  stepped : {A B : Type 0} (f : A → B) (t : Step) (a : A) (M : Answer A) → ofStepped t a ≡ M → ofStepped t (f a) ≡ bind M (λ a. got (f a))
+  unfolding bind
+  stepped f (Step.Past x) a M e = rw (← e) refl
+  stepped f (Step.Refused k p) a M e = rw (← e) refl
+
+  pub as-number32 : (k : Kind) (hash : Bool) → k ≡ Kind.Number32 → ofStepped (c .step) (c .value) ≡ exactly 9 (readNumber 2 top32) at (slice at end s)
+      → (v p : ℕ) → hash ≡ table.hashed v → ofStepped (c .step) (contentValue s (ofKind k) c) ≡ contentOf v (ofKind k) p at (slice at end s)
+  unfolding contentValue contentOf under readInteger readNumber
+  as-number32 k hash q e v p h = rw q (stepped num (c .step) (c .value) _ e)
+
+  pub as-number64 : (k : Kind) (hash : Bool) → k ≡ Kind.Number64 → ofStepped (c .step) (c .value) ≡ exactly 9 (readNumber 2 top64) at (slice at end s)
+      → (v p : ℕ) → hash ≡ table.hashed v → ofStepped (c .step) (contentValue s (ofKind k) c) ≡ contentOf v (ofKind k) p at (slice at end s)
+  unfolding contentValue contentOf under readInteger readNumber
+  as-number64 k hash q e v p h = rw q (stepped num (c .step) (c .value) _ e)
+
+  pub as-null : (k : Kind) (hash : Bool) → k ≡ Kind.Null → ofStepped (c .step) tt ≡ exactly 9 readNull at (slice at end s)
+      → (v p : ℕ) → hash ≡ table.hashed v → ofStepped (c .step) (contentValue s (ofKind k) c) ≡ contentOf v (ofKind k) p at (slice at end s)
+  unfolding contentValue contentOf under
+  as-null k hash q e v p h = rw q (stepped (λ (u : Unit {0}). nul) (c .step) tt _ e)
+
+  pub as-octets : (k : Kind) (hash : Bool) → k ≡ Kind.Octets → ofStepped (c .step) (octetsAt s (c .value) (c .size)) ≡ exactly 9 readOctets at (slice at end s)
+      → (v p : ℕ) → hash ≡ table.hashed v → ofStepped (c .step) (contentValue s (ofKind k) c) ≡ contentOf v (ofKind k) p at (slice at end s)
+  unfolding contentValue contentOf under
+  as-octets k hash q e v p h = rw q (stepped oct (c .step) (octetsAt s (c .value) (c .size)) _ e)
+
+  pub as-set : (k : Kind) (hash : Bool) → k ≡ Kind.Set → ofStepped (c .step) (membersOf (c .set)) ≡ exactly 9 readSet at (slice at end s)
+      → (v p : ℕ) → hash ≡ table.hashed v → ofStepped (c .step) (contentValue s (ofKind k) c) ≡ contentOf v (ofKind k) p at (slice at end s)
+  unfolding contentValue contentOf under
+  as-set k hash q e v p h = rw q (stepped nums (c .step) (membersOf (c .set)) _ e)
+
+  pub as-root : (k : Kind) (hash : Bool) → k ≡ Kind.Root → ofStepped (c .step) (trustOf s (c .root)) ≡ exactly 9 (readRoot hash) at (slice at end s)
+      → (v p : ℕ) → hash ≡ table.hashed v → ofStepped (c .step) (contentValue s (ofKind k) c) ≡ contentOf v (ofKind k) p at (slice at end s)
+  unfolding contentValue contentOf under
+  as-root k hash q e v p h = rw (q, ← h) (stepped (λ (t : Trust). trust (decode.rootOf t)) (c .step) (trustOf s (c .root)) _ e)

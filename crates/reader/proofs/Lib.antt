@@ -7,3 +7,4 @@ pub mod Exact
 pub mod Contents
 pub mod FieldHeads
 pub mod Lists
+pub mod Filling

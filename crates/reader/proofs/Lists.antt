@@ -18,7 +18,10 @@ use Rattle.schema.specs.Content.{Value, num, nul, oct, nums, trust, Field, fiel
 use Rattle.schema.proofs.Table.{above}
 use Rattle.records.specs.Content.{octetsAt, membersOf, rootOf, setAt, valueAt, fieldAt, upTo, fieldsOf}
 use Rattle.records.specs.declared.FieldList.{FieldList}
-use Rattle.reader.specs.Content.{contentValue}
+use Rattle.records.specs.declared.NumberSet.{NumberSet}
+use Rattle.records.specs.declared.RootOfTrust.{RootOfTrust}
+use Rattle.reader.specs.Set.{emptySet}
+use Rattle.reader.specs.Content.{contentValue, emptyRoot}
 use Rattle.reader.specs.Lists.{emptyList, withField}
 use Rattle.reader.specs.declared.content.ContentRead.{ContentRead}
 
@@ -184,3 +187,7 @@ empty-fields s = upTo-to (fieldAt emptyList s) 0 42 (omega arith) (λ k p q. emp
 
 pub empty-sized : Sized emptyList
 empty-sized = record { present = refl; values = refl; sizes = refl }
+
+pub empty-is : (g : NumberSet) (r : RootOfTrust) → g ≡ emptySet → r ≡ emptyRoot
+    → _≡_ {A = FieldList} (record { present = replicate 42 false; values = replicate 42 0; sizes = replicate 42 0; purpose = g; digest = g; padding = g; mgf = g; root = r }) emptyList
+empty-is g r e q = rw (e, q) refl

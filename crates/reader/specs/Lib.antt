@@ -4,3 +4,4 @@ pub mod Set
 pub mod Content
 pub mod Fields
 pub mod Lists
+pub mod Root

@@ -4,6 +4,8 @@ use crate::leaf::Octets;
 use crate::leaf::read_null;
 use crate::leaf::read_number;
 use crate::leaf::read_octets;
+use crate::root::Root;
+use crate::root::read_root;
 use crate::set::Step;
 use crate::set::empty_set;
 use crate::set::read_set;
@@ -11,15 +13,19 @@ use answer::WRONG_ELEMENT;
 use records::NumberSet;
 use records::Part;
 use records::RootOfTrust;
+use schema::Kind;
 ghost use mathlib.Core.Path.{_≡_};
-ghost use Prim.Native.Nat.{_≤_};
+ghost use Prim.Native.Nat.{ℕ, _≤_};
 ghost use lib.ListN.{length};
 ghost use lib.Seq.{slice};
 ghost use Rattle.codec.specs.Element.{exactly};
-ghost use Rattle.schema.specs.Decode.{readOctets, readNull, readSet};
+ghost use Rattle.schema.specs.Table as table;
+ghost use Rattle.schema.specs.Rows.{ofKind};
+ghost use Rattle.schema.specs.Decode.{contentOf, readOctets, readNull, readSet, readRoot};
 ghost use Rattle.records.specs.Content.{octetsAt, membersOf};
 ghost use Rattle.reader.specs.Leaf.{readNumber};
-ghost use Rattle.reader.specs.Content.{ofStepped, emptyRoot, endStep, plainContent};
+ghost use Rattle.reader.specs.Root.{trustOf};
+ghost use Rattle.reader.specs.Content.{ofStepped, emptyRoot, endStep, plainContent, contentValue};
 
 // A field's content, whatever its kind: a number; or a part of the bytes, its start in value; or a set; or 704's.
 pub(crate) struct ContentRead {
@@ -111,5 +117,36 @@ fn set_content(s: &[u8], at: usize, end: usize) -> ContentRead
             set,
             root: empty_root(),
         },
+    }
+}
+
+fn root_content(s: &[u8], at: usize, end: usize, hashed: bool) -> ContentRead
+    requires { ⌜ end ≤ length (now s) ⌝ }
+    ensures { λ r. ⌜ ofStepped (r .step) (trustOf (now (s .entry)) (r .root)) ≡ exactly 9 (readRoot hashed) at (slice at end (now (s .entry))) ⌝ }
+{
+    match read_root(s, at, end, hashed) {
+        Root::Refused(k, place) => plain(Step::Refused(k, place), 0, 0),
+        Root::Is(root, next) => ContentRead {
+            step: at_end(next, end),
+            value: 0,
+            size: 0,
+            set: empty_set(),
+            root,
+        },
+    }
+}
+
+// The content of a field, by its kind.
+pub(crate) fn read_content(s: &[u8], at: usize, end: usize, kind: Kind, hashed: bool) -> ContentRead
+    requires { ⌜ end ≤ length (now s) ⌝ }
+    ensures { λ r. ⌜ ((v p : ℕ) → hashed ≡ table.hashed v → ofStepped (r .step) (contentValue (now (s .entry)) (ofKind kind) r) ≡ contentOf v (ofKind kind) p at (slice at end (now (s .entry)))) ⌝ }
+{
+    match kind {
+        Kind::Number32 => number_content(s, at, end, 0xffff_ffff),
+        Kind::Number64 => number_content(s, at, end, 0xffff_ffff_ffff_ffff),
+        Kind::Null => null_content(s, at, end),
+        Kind::Octets => octets_content(s, at, end),
+        Kind::Set => set_content(s, at, end),
+        Kind::Root => root_content(s, at, end, hashed),
     }
 }

@@ -3,4 +3,5 @@ mod content;
 mod element;
 mod fields;
 mod leaf;
+mod root;
 mod set;
