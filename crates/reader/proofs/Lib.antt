@@ -3,3 +3,4 @@ pub mod Spelled
 pub mod Leaves
 pub mod Chains
 pub mod Members
+pub mod Roots

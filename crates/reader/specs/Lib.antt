@@ -1,3 +1,4 @@
 pub mod Element
 pub mod Leaf
 pub mod Set
+pub mod Root
