@@ -8,3 +8,4 @@ pub mod Contents
 pub mod FieldHeads
 pub mod Lists
 pub mod Filling
+pub mod Roots

@@ -12,7 +12,6 @@ use Rattle.codec.specs.Octets.{Taken, taken}
 use Rattle.codec.specs.Element.{exactly, both}
 use Rattle.schema.specs.Decode.{readBoolean, readEnumerated, readHash, rootParts}
 use Rattle.records.specs.Content.{partOf}
-use Rattle.records.specs.declared.Part.{Part}
 use Rattle.records.specs.declared.RootOfTrust.{RootOfTrust}
 use Rattle.reader.specs.declared.root.Root.{Root}
 

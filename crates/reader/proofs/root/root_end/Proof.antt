@@ -1,0 +1,13 @@
+-- `reader::root::root_end` meets its contract: its test is that of `rootEnd`. Assumes nothing.
+use Rattle.reader.proofs.Roots.{end-extra, end-is}
+use Rattle.reader.proofs.root.root_end.Statement.{statement}
+use Rattle.reader.proofs.root.root_end.Tie as tie
+
+returns : tie.Need-returns
+returns c = search (end-extra, end-is)
+
+returns-2 : tie.Need-returns-2
+returns-2 c = search (end-extra, end-is)
+
+pub root-end-spec : {M : Type 1} → statement M
+root-end-spec = tie.close (tie.spec returns returns-2)
