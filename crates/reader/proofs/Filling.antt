@@ -16,14 +16,18 @@ use Rattle.schema.specs.Table as table
 use Rattle.schema.specs.Table.{Kind, rows, rowAt}
 use Rattle.schema.specs.Rows.{ofKind, ofRow}
 use Rattle.schema.specs.Content.{Value, Field, field, afterField}
-use Rattle.schema.specs.Decode.{contentOf, readField}
+use Rattle.schema.specs.Decode.{contentOf, readField, readList}
 use Rattle.schema.specs.declared.Row as code
 use Rattle.schema.proofs.Table.{above}
 use Rattle.records.specs.Content.{fieldAt, fieldsOf}
 use Rattle.records.specs.declared.FieldList.{FieldList}
 use Rattle.reader.specs.Content.{ofStepped, contentValue}
 use Rattle.reader.specs.Fields.{FieldAt, FieldOpened}
-use Rattle.reader.specs.Lists.{emptyList, withField, fieldsFrom}
+use Rattle.reader.specs.Element.{openedAs, ofTagged}
+use Rattle.reader.specs.Set.{StepAt}
+use Rattle.reader.specs.Lists.{emptyList, withField, fieldsFrom, ofFields, ofList}
+use Rattle.reader.specs.declared.element.Tagged.{Tagged}
+use Rattle.reader.proofs.Open.{leaf-no, leaf-is}
 use Rattle.reader.specs.declared.set.Step.{Step}
 use Rattle.reader.specs.declared.fields.FieldHead.{FieldHead}
 use Rattle.reader.specs.declared.content.ContentRead.{ContentRead}
@@ -147,3 +151,19 @@ module _ (s : List ℕ) (at end v : ℕ) (fit : end ≤ length s) where
 
   pub filled-all : (l : FieldList) (place low : ℕ) → Filled s at end v l place low → end ≤ place → got (fieldsOf l s) ≡ fieldsFrom v at (slice at end s)
   filled-all l place low g h = ahead-end (readField v) afterField s end fit _ (fieldsOf l s) low place (g .ahead) (g .to) h
+
+-- ---- the list
+
+module _ (s : List ℕ) (at end v : ℕ) (r : Tagged) (e : ofTagged s end r ≡ openedAs 1 16 at (slice at end s)) where
+  pub list-no : (k p : ℕ) → r ≡ Tagged.Refused k p → refused k p ≡ readList v at (slice at end s)
+  unfolding readList
+  list-no k p w = sym (leaf-no _ at 1 16 s end r e k p w)
+
+  fields-as-list : (b x : ℕ) (t : Step) (l : FieldList) → ofFields s t l ≡ fieldsFrom v b (slice b x s) → StepAt x t → ofList s end t l ≡ bind (fieldsFrom v b (slice b x s)) (λ a. got (taken a x (slice x end s)))
+  unfolding bind
+  fields-as-list b x (Step.Past y) l q i = rw (← q, i) refl
+  fields-as-list b x (Step.Refused k p) l q i = rw (← q) refl
+
+  pub list-is : (b x : ℕ) (t : Step) (l : FieldList) → r ≡ Tagged.Is b x → ofFields s t l ≡ fieldsFrom v b (slice b x s) → StepAt x t → ofList s end t l ≡ readList v at (slice at end s)
+  unfolding readList fieldsFrom
+  list-is b x t l w q i = fields-as-list b x t l q i ∙ sym (leaf-is _ at 1 16 s end r e b x w)

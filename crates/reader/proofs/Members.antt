@@ -134,6 +134,7 @@ module _ (s : List ℕ) (at end : ℕ) (r : Tagged) (e : ofTagged s end r ≡ op
   unfolding readSet membersFrom
   set-is b x t g w q i = members-as-set b x t g q i ∙ sym (leaf-is _ at 1 17 s end r e b x w)
 
-  pub set-inside : (b x : ℕ) (t : Step) → TaggedInside at end r → r ≡ Tagged.Is b x → StepAt x t → StepInside at end t
-  set-inside b x (Step.Past y) i w q = let j = tagged-inside at end b x r i w in omega (arith, j)
-  set-inside b x (Step.Refused k p) i w q = tt
+-- a step past what an element holds is past the element
+pub step-inside : (at end b x : ℕ) (r : Tagged) (t : Step) → TaggedInside at end r → r ≡ Tagged.Is b x → StepAt x t → StepInside at end t
+step-inside at end b x r (Step.Past y) i w q = let j = tagged-inside at end b x r i w in omega (arith, j)
+step-inside at end b x r (Step.Refused k p) i w q = tt

@@ -6,6 +6,7 @@ use lib.Dec.{eqb}
 use lib.ListN.{set, replicate}
 use lib.Seq.{slice}
 use Rattle.answer.specs.Answer.{Answer, got, refused, pick}
+use Rattle.codec.specs.Octets.{Taken, taken}
 use Rattle.codec.specs.Element.{chain}
 use Rattle.schema.specs.Content.{Field, afterField}
 use Rattle.schema.specs.Decode.{readField}
@@ -48,3 +49,7 @@ fieldsFrom v p bs = chain (readField v) afterField 0 p bs
 abbrev pub ofFields : List ℕ → Step → FieldList → Answer (List Field)
 ofFields s (Step.Past x) l = got (fieldsOf l s)
 ofFields s (Step.Refused k p) l = refused k p
+
+abbrev pub ofList : List ℕ → ℕ → Step → FieldList → Answer (Taken (List Field))
+ofList s end (Step.Past x) l = got (taken (fieldsOf l s) x (slice x end s))
+ofList s end (Step.Refused k p) l = refused k p

@@ -2,7 +2,9 @@
 use crate::content::empty_root;
 use crate::content::read_content;
 use crate::element::Element;
+use crate::element::Tagged;
 use crate::element::open_element;
+use crate::element::open_tagged;
 use crate::set::Step;
 use crate::set::empty_set;
 use answer::FIELD_ORDER;
@@ -16,9 +18,10 @@ ghost use mathlib.Core.Path.{_≡_};
 ghost use Prim.Native.Nat.{_≤_};
 ghost use lib.ListN.{length};
 ghost use lib.Seq.{slice};
-ghost use Rattle.reader.specs.Set.{StepAt};
+ghost use Rattle.schema.specs.Decode.{readList};
+ghost use Rattle.reader.specs.Set.{StepAt, StepInside};
 ghost use Rattle.reader.specs.Fields.{FieldOpened};
-ghost use Rattle.reader.specs.Lists.{emptyList, fieldsFrom, ofFields};
+ghost use Rattle.reader.specs.Lists.{emptyList, fieldsFrom, ofFields, ofList};
 
 // A field: its row and number, and its content from body to stop; or a refusal with its place.
 pub(crate) enum FieldHead {
@@ -150,5 +153,20 @@ fn read_fields(s: &[u8], at: usize, end: usize, version: u32) -> ListRead
     ListRead {
         step: Step::Past(end),
         list,
+    }
+}
+
+// One list: a SEQUENCE of fields.
+pub(crate) fn read_list(s: &[u8], at: usize, end: usize, version: u32) -> ListRead
+    requires { ⌜ end ≤ length (now s) ⌝ }
+    ensures is { λ r. ⌜ ofList (now (s .entry)) end (r .step) (r .list) ≡ readList version at (slice at end (now (s .entry))) ⌝ }
+    ensures inside { λ r. ⌜ StepInside at end (r .step) ⌝ }
+{
+    match open_tagged(s, at, end, 1, 16) {
+        Tagged::Refused(k, place) => ListRead {
+            step: Step::Refused(k, place),
+            list: empty_list(),
+        },
+        Tagged::Is(body, stop) => read_fields(s, body, stop, version),
     }
 }

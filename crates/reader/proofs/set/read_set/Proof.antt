@@ -1,6 +1,6 @@
 use native.Mathlib.Omega.{arith}
 use Rattle.reader.proofs.Open.{tagged-inside}
-use Rattle.reader.proofs.Members.{set-no, set-is, set-inside}
+use Rattle.reader.proofs.Members.{set-no, set-is, step-inside}
 use borrow.Author.Needs.{needs}
 use Rattle.reader.proofs.set.read_set.Statement.{statement}
 use Rattle.reader.proofs.set.read_set.Tie as tie
@@ -32,11 +32,11 @@ read-members-requires c κs = omega (arith, tagged-inside (c .before .before .be
 
 -- src/set.rt:83:1
 returns : tie.Need-returns
-returns c = (search (set-no, set-is), search (needs, set-inside))
+returns c = (search (set-no, set-is), search (needs, step-inside))
 
 -- src/set.rt:83:1
 returns-2 : tie.Need-returns-2
-returns-2 c = (search (set-no, set-is), search (needs, set-inside))
+returns-2 c = (search (set-no, set-is), search (needs, step-inside))
 
 pub read-set-spec : {M : Type 1} → statement M
 read-set-spec =
