@@ -5,3 +5,5 @@ pub mod Content
 pub mod Fields
 pub mod Lists
 pub mod Root
+pub mod Head
+pub mod Reading

@@ -1,7 +1,9 @@
 // The schema pass: what an extension says, read into a record (document 01, "KeyDescription", refusals 8 to 14).
 mod content;
+mod eight;
 mod element;
 mod fields;
+mod head;
 mod leaf;
 mod root;
 mod set;
