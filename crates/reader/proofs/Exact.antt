@@ -21,18 +21,18 @@ module _ {A : Type 0} (rd : ℕ → List ℕ → Answer (Taken A)) (s : List ℕ
   unfolding exactly bind
   exact-no k p e = rw e refl
 
-  extra : (a : A) (x : ℕ) → rd at (slice at end s) ≡ got (taken a x (slice x end s)) → x < end → exactly 9 rd at (slice at end s) ≡ refused 9 x
+  pub exact-extra : (a : A) (x : ℕ) → rd at (slice at end s) ≡ got (taken a x (slice x end s)) → x < end → exactly 9 rd at (slice at end s) ≡ refused 9 x
   unfolding exactly bind guard
-  extra a x e h = rw (e, ne-eqb (length (slice x end s)) 0 (omega (arith, length-slice x end s fit))) refl
+  exact-extra a x e h = rw (e, ne-eqb (length (slice x end s)) 0 (omega (arith, length-slice x end s fit))) refl
 
-  whole : (a : A) (x : ℕ) → rd at (slice at end s) ≡ got (taken a x (slice x end s)) → x ≡ end → exactly 9 rd at (slice at end s) ≡ got a
+  pub exact-whole : (a : A) (x : ℕ) → rd at (slice at end s) ≡ got (taken a x (slice x end s)) → x ≡ end → exactly 9 rd at (slice at end s) ≡ got a
   unfolding exactly bind guard
-  whole a x e h = rw (e, eq-eqb (length (slice x end s)) 0 (length-slice x end s fit ∙ omega arith)) refl
+  exact-whole a x e h = rw (e, eq-eqb (length (slice x end s)) 0 (length-slice x end s fit ∙ omega arith)) refl
 
   -- as the code's step has it
   pub exact-is : (a : A) (x : ℕ) → rd at (slice at end s) ≡ got (taken a x (slice x end s)) → x ≤ end → ofStepped (endStep x end) a ≡ exactly 9 rd at (slice at end s)
   unfolding pick
   exact-is a x e h =
       by-le end x
-      (λ l. let q : x ≡ end = omega arith in rw (eq-eqb x end q) (sym (whole a x e q)))
-      (λ l. rw (ne-eqb x end (omega arith)) (sym (extra a x e l)))
+      (λ l. let q : x ≡ end = omega arith in rw (eq-eqb x end q) (sym (exact-whole a x e q)))
+      (λ l. rw (ne-eqb x end (omega arith)) (sym (exact-extra a x e l)))

@@ -9,3 +9,5 @@ pub mod FieldHeads
 pub mod Lists
 pub mod Filling
 pub mod Roots
+pub mod Eights
+pub mod Readings

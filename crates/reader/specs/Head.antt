@@ -9,9 +9,8 @@ use Rattle.codec.specs.Octets.{Taken, taken}
 use Rattle.codec.specs.Element.{both}
 use Rattle.schema.specs.Table.{knownVersion, levelTop, top32}
 use Rattle.schema.specs.Content.{Field}
-use Rattle.schema.specs.Decode.{readInteger, readEnumerated, readOctets, readVersion, Eight}
+use Rattle.schema.specs.Decode.{readInteger, readEnumerated, readOctets, readList, readVersion, Eight}
 use Rattle.records.specs.Content.{partOf}
-use Rattle.records.specs.declared.Part.{Part}
 use Rattle.reader.specs.declared.leaf.Number.{Number}
 use Rattle.reader.specs.declared.head.Secured.{Secured}
 use Rattle.reader.specs.declared.head.Names.{Names}
@@ -32,6 +31,13 @@ heading a k n = record { version = a .0; level = a .1; keymint = k .0; keymintLe
 -- with the two lists they are the eight
 abbrev pub eightWith : Heading → List Field → List Field → Eight
 eightWith h s w = (h .version, (h .level, (h .keymint, (h .keymintLevel, (h .challenge, (h .unique, (s, w)))))))
+
+-- the two lists that follow the six, and with them the eight
+abbrev pub listsAfter : Heading → ℕ → List ℕ → Answer (Taken Eight)
+listsAfter h p bs =
+    bind (readList (h .version) p bs) λ s.
+    bind (readList (h .version) (s .next) (s .rest)) λ w.
+    got (taken (eightWith h (s .val) (w .val)) (w .next) (w .rest))
 
 -- "version INTEGER, level ENUMERATED"
 unfoldable pub readAttestation : ℕ → List ℕ → Answer (Taken (ℕ × ℕ))

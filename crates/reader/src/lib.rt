@@ -7,3 +7,81 @@ mod head;
 mod leaf;
 mod root;
 mod set;
+
+use crate::eight::empty_record;
+use crate::eight::read_eight;
+use crate::element::Tagged;
+use crate::element::open_tagged;
+use crate::set::Step;
+use answer::SPARE_BYTES;
+use answer::WRONG_ELEMENT;
+use der::walk::Limits;
+use der::walk::Walked;
+use records::Record;
+ghost use mathlib.Core.Path.{_≡_};
+ghost use Rattle.schema.specs.Decode as schema;
+ghost use Rattle.reader.specs.Reading.{refusedReading, readWith, ofReading, RefusedEmpty};
+
+// Accepted, with the count of elements; or a refusal with its place.
+pub enum Outcome {
+    Accepted(usize),
+    Refused(u8, usize),
+}
+
+// What a read answers. Where it is accepted the record's octet parts lie in the bytes that were read; where it is refused
+// the record says nothing.
+pub struct Reading {
+    pub outcome: Outcome,
+    pub said: Record,
+}
+
+fn refused(number: u8, place: usize) -> Reading
+    ensures { λ r. ⌜ r ≡ refusedReading number place ⌝ }
+{
+    Reading {
+        outcome: Outcome::Refused(number, place),
+        said: empty_record(),
+    }
+}
+
+// The schema over bytes that the first pass accepted, with count elements.
+fn read_description(s: &[u8], count: usize) -> Reading
+    ensures is { λ r. ⌜ ofReading (now (s .entry)) (r .outcome) (r .said) ≡ readWith count (now (s .entry)) ⌝ }
+    ensures empty { λ r. ⌜ RefusedEmpty (r .outcome) (r .said) ⌝ }
+{
+    let end = s.len();
+    match open_tagged(s, 0, end, 1, 16) {
+        Tagged::Refused(k, place) => refused(k, place),
+        Tagged::Is(body, stop) => {
+            let eight = read_eight(s, body, stop);
+            let said = eight.said;
+            let step = eight.step;
+            match step {
+                Step::Refused(k, place) => refused(k, place),
+                Step::Past(next) => {
+                    if next != stop {
+                        return refused(WRONG_ELEMENT, next);
+                    }
+                    if stop != end {
+                        return refused(SPARE_BYTES, stop);
+                    }
+                    Reading {
+                        outcome: Outcome::Accepted(count),
+                        said,
+                    }
+                }
+            }
+        }
+    }
+}
+
+// Reads one extension: the first pass, and then the schema. Any bytes get an answer, and nothing lent is changed.
+pub fn read(s: &[u8]) -> Reading
+    ensures is { λ r. ⌜ ofReading (now (s .entry)) (r .outcome) (r .said) ≡ schema.read (now (s .entry)) ⌝ }
+    ensures empty { λ r. ⌜ RefusedEmpty (r .outcome) (r .said) ⌝ }
+{
+    match der::walk::walk(s, Limits::extension()) {
+        Walked::Refused(k, place) => refused(k, place),
+        Walked::Accepted(count) => read_description(s, count),
+    }
+}
