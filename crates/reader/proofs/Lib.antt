@@ -4,3 +4,4 @@ pub mod Leaves
 pub mod Chains
 pub mod Members
 pub mod Roots
+pub mod Heads

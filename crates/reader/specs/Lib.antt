@@ -2,3 +2,4 @@ pub mod Element
 pub mod Leaf
 pub mod Set
 pub mod Root
+pub mod Head
