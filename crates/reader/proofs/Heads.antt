@@ -259,7 +259,6 @@ fromKeymint v = both (readInteger top32) λ k. both (readEnumerated (levelTop v)
 module _ (a : ℕ × ℕ) where
   lists-split : (k : ℕ × ℕ) (n : List ℕ × List ℕ) (p : ℕ) (bs : List ℕ)
       → bind (both (readList (a .0)) (λ s. readList (a .0)) p bs) (λ c. got (taken (a .0, (a .1, (k .0, (k .1, (n .0, (n .1, c .val)))))) (c .next) (c .rest))) ≡ listsAfter (heading a k n) p bs
-  unfolding listsAfter
   lists-split k n p bs = both-then (readList (a .0)) (λ s. readList (a .0)) _ p bs
 
   names-split : (k : ℕ × ℕ) (p : ℕ) (bs : List ℕ)

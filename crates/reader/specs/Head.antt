@@ -33,7 +33,7 @@ abbrev pub eightWith : Heading → List Field → List Field → Eight
 eightWith h s w = (h .version, (h .level, (h .keymint, (h .keymintLevel, (h .challenge, (h .unique, (s, w)))))))
 
 -- the two lists that follow the six, and with them the eight
-unfoldable pub listsAfter : Heading → ℕ → List ℕ → Answer (Taken Eight)
+abbrev pub listsAfter : Heading → ℕ → List ℕ → Answer (Taken Eight)
 listsAfter h p bs =
     bind (readList (h .version) p bs) λ s.
     bind (readList (h .version) (s .next) (s .rest)) λ w.
