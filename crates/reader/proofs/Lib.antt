@@ -11,3 +11,4 @@ pub mod Filling
 pub mod Roots
 pub mod Eights
 pub mod Readings
+pub mod Heads

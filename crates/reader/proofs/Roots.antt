@@ -70,7 +70,7 @@ module _ {A B C : Type 0} (rd : ℕ → List ℕ → Answer (Taken A)) (rd′ : 
   unfolding exactly both
   exactly-both p bs = first (rd p bs)
 
-bind-same : {A : Type 0} (M : Answer A) → bind M (λ w. got w) ≡ M
+pub bind-same : {A : Type 0} (M : Answer A) → bind M (λ w. got w) ≡ M
 unfolding bind
 bind-same (got a) = refl
 bind-same (refused k p) = refl

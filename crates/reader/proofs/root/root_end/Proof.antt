@@ -4,10 +4,10 @@ use Rattle.reader.proofs.root.root_end.Statement.{statement}
 use Rattle.reader.proofs.root.root_end.Tie as tie
 
 returns : tie.Need-returns
-returns c = search (end-extra, end-is)
+returns c = search end-extra
 
 returns-2 : tie.Need-returns-2
-returns-2 c = search (end-extra, end-is)
+returns-2 c = search end-is
 
 pub root-end-spec : {M : Type 1} → statement M
 root-end-spec = tie.close (tie.spec returns returns-2)
