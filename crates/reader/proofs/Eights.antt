@@ -56,3 +56,6 @@ head-inside at end h a m c u x i w = let j = subst (HeadInside at end) w i in (j
 
 pub step-in : (at end x : ℕ) (t : Step) → StepInside at end t → t ≡ Step.Past x → (at < x) × (x ≤ end)
 step-in at end x t i w = subst (StepInside at end) w i
+
+pub refused-inside : (at end k p : ℕ) (r : EightRead) → r ≡ refusedEight k p → StepInside at end (r .step)
+refused-inside at end k p r e = rw e tt

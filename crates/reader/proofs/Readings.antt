@@ -93,7 +93,7 @@ module _ (s : List ℕ) (n : ℕ) (r : Tagged) (e : ofTagged s (length s) r ≡ 
   all = rw (take-length, decode-outer) refl
 
   pub read-no : (k q : ℕ) (a : Reading) → r ≡ Tagged.Refused k q → a ≡ refusedReading k q → ofReading s (a .outcome) (a .said) ≡ readWith n s
-  unfolding exactly bind outer
+  unfolding exactly bind outer content
   read-no k q a w u = rw u (sym (all ∙ rw (leaf-no content 0 1 16 s (length s) r e k q w) refl))
 
   module _ (b x : ℕ) (w : r ≡ Tagged.Is b x) (i : TaggedInside 0 (length s) r) (t : Step) (g : Record) (e₂ : ofEight s x t g ≡ readContent b (slice b x s)) where
@@ -101,7 +101,7 @@ module _ (s : List ℕ) (n : ℕ) (r : Tagged) (e : ofTagged s (length s) r ≡ 
     inside = tagged-inside 0 (length s) b x r i w .1 .1
 
     here : (M : Answer Content) → exactly 9 readContent b (slice b x s) ≡ M → readWith n s ≡ bind (bind (bind M (λ a. got (taken a x (slice x (length s) s)))) (λ v. guard (eqb (length (v .rest)) 0) 7 (v .next) (got (v .val)))) (λ c. got (c, n))
-    unfolding exactly outer
+    unfolding exactly outer content
     here M q = all ∙ rw (leaf-is content 0 1 16 s (length s) r e b x w, q) refl
 
     pub read-eight-no : (k q : ℕ) (a : Reading) → t ≡ Step.Refused k q → a ≡ refusedReading k q → ofReading s (a .outcome) (a .said) ≡ readWith n s
@@ -134,7 +134,7 @@ module _ (s : List ℕ) (limits : Limits) (q : limits ≡ extensionLimits) (r : 
   first : ofWalked r ≡ nodeCount (firstPass 8192 8 512 s)
   first = rw q at e
 
-  no : (k p : ℕ) (M : Answer Node) → refused k p ≡ nodeCount M → refused k p ≡ bind M (λ t. bind (decode s) (λ c. got (c, nodes t)))
+  no : (k p : ℕ) (M : Answer Node) → refused k p ≡ nodeCount M → _≡_ {A = Answer (Content × ℕ)} (refused k p) (bind M (λ t. bind (decode s) (λ c. got (c, nodes t))))
   unfolding bind
   no k p (got t) z = absurd (refused-got z)
   no k p (refused j l) z = refused-as z
