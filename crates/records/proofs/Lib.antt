@@ -1,0 +1,2 @@
+pub mod Rowwise
+pub mod Buffer
