@@ -1,2 +1,5 @@
 pub mod Rowwise
+pub mod Fields
 pub mod Buffer
+pub mod Asking
+pub mod OctetFields
