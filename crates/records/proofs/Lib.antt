@@ -3,3 +3,4 @@ pub mod Fields
 pub mod Buffer
 pub mod Asking
 pub mod OctetFields
+pub mod Shapes
