@@ -4,3 +4,4 @@ pub mod Buffer
 pub mod Asking
 pub mod OctetFields
 pub mod Shapes
+pub mod Equal
