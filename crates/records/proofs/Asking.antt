@@ -5,7 +5,7 @@ use mathlib.Core.Bool.{Bool, true, false, not}
 use mathlib.Core.Option.{Option, none, some}
 use mathlib.Core.Logic.{inl, inr}
 use mathlib.Core.List.{List, [], _∷_}
-use Prim.Native.Nat.{ℕ, _+_, _-_, _<_, _≤_}
+use Prim.Native.Nat.{ℕ, _+_, _-_, _≤_}
 use native.Mathlib.Omega.{arith}
 use lib.Dec.{leb→le}
 use lib.ListN.{length, getD, take, drop, List·getD-eq-default}
@@ -23,7 +23,6 @@ use Rattle.schema.proofs.Kind as kinds
 use Rattle.records.specs.declared.FieldList.{FieldList}
 use Rattle.records.specs.declared.Record.{Record}
 use Rattle.records.specs.declared.octets.Asked.{Asked}
-use Rattle.records.specs.Content.{octetsAt}
 use Rattle.records.specs.Parts.{inside}
 use Rattle.records.specs.Asked.{listOf, askedOf, askedAt, askedOctets, partAsked, octetFieldOf, ofAsked}
 use Rattle.records.proofs.octets.Asked as answers

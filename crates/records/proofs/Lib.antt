@@ -4,4 +4,5 @@ pub mod Buffer
 pub mod Asking
 pub mod OctetFields
 pub mod Shapes
+pub mod ShapedContent
 pub mod Equal

@@ -4,15 +4,15 @@ use mathlib.Core.Path.{_≡_, refl, sym, ap, _∙_}
 use mathlib.Core.Bool.{Bool, true, false}
 use mathlib.Core.Option.{Option, none, some}
 use mathlib.Core.List.{List}
-use Prim.Native.Nat.{ℕ, _<_, _≤_}
+use Prim.Native.Nat.{ℕ, _<_}
 use native.Mathlib.Omega.{arith}
 use lib.ListN.{length, getD, List·getD-eq-default}
-use Rattle.answer.specs.Answer.{Answer, got, refused, guard, pick}
+use Rattle.answer.specs.Answer.{got, guard, pick}
 use Rattle.answer.specs.Refusal.{illShaped}
 use Rattle.answer.proofs.Logic.{by-le}
-use Rattle.answer.proofs.Answer.{got-inj, refused-got}
+use Rattle.answer.proofs.Answer.{refused-got}
 use Rattle.schema.specs.Table.{Kind, set, number32, number64, null, octets, root, Row, row, rows, rowAt, indexOf}
-use Rattle.schema.specs.Content.{Value, oct}
+use Rattle.schema.specs.Content.{oct}
 use Rattle.schema.proofs.Table.{find-place}
 use Rattle.records.specs.declared.FieldList.{FieldList}
 use Rattle.records.specs.declared.Record.{Record}
@@ -21,7 +21,7 @@ use Rattle.records.specs.Fields.{fieldValue}
 use Rattle.records.specs.Parts.{inside}
 use Rattle.records.specs.Asked.{listOf, askedOf, askedAt, askedOctets, octetFieldOf}
 use Rattle.records.proofs.Fields.{place-below, no-row-has, row-value}
-use Rattle.records.proofs.Asking.{Held, asked-held}
+use Rattle.records.proofs.Asking.{asked-held}
 
 number-at : (n : ℕ) → indexOf rows n < 42 → rowAt (indexOf rows n) .number ≡ n
 unfolding rows

@@ -1,14 +1,14 @@
 -- Well-shaped records: each answer of the code is the same test of `specs/Shape`. Assumes nothing.
-use mathlib.Core.Path.{_≡_, refl, sym, ap, _∙_}
-use mathlib.Core.Bool.{Bool, true, false, not, _&&_, _||_}
+use mathlib.Core.Path.{_≡_, refl, sym, _∙_}
+use mathlib.Core.Bool.{Bool, true, false, not, _&&_}
 use mathlib.Core.Logic.{inl, inr}
 use mathlib.Core.List.{List, [], _∷_}
 use Prim.Native.Nat.{ℕ, zero, suc, _+_, _<_, _≤_, _^_}
 use native.Mathlib.Omega.{arith}
 use native.Mathlib.Numerals.{add-one}
-use lib.Dec.{leb, ltb, eqb, leb·zero}
+use lib.Dec.{leb, ltb, leb·zero}
 use lib.ListN.{getD}
-use borrow.Author.Tests.{le-leb, lt-leb, lt-ltb, le-ltb, eq-eqb, ne-eqb, leb-true, not-true, not-false}
+use borrow.Author.Tests.{le-leb, lt-leb, lt-ltb, le-ltb, ne-eqb, leb-true, not-true, not-false}
 use denote.Enum.Declared.{tagOf}
 use types.Run.{OneOf}
 use Rattle.answer.specs.Answer.{pick}
@@ -24,7 +24,7 @@ use Rattle.records.specs.declared.FieldList.{FieldList}
 use Rattle.records.specs.declared.Record.{Record}
 use Rattle.records.specs.Content.{setAt}
 use Rattle.records.specs.Rows.{allBelow}
-use Rattle.records.specs.Shape.{memberShaped, setShaped, same, rootShaped, valueShaped, rowShaped, listShaped, headShaped, wellShapedRecord}
+use Rattle.records.specs.Shape.{memberShaped, setShaped, rootShaped, valueShaped, rowShaped, listShaped, headShaped, wellShapedRecord}
 use Rattle.records.proofs.Rowwise.{both-true, all-none, all-more, all-fewer, all-fails}
 
 -- ---- versions and levels

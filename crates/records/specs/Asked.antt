@@ -1,7 +1,7 @@
 -- Document 01, "KeyDescription": "An octet field, asked for by list and number, is handed back as the very part of the
 -- caller's extension that holds it; asking for an absent one, or for a number that is no octet field, says absent; a part
 -- outside the lent bytes gives 20".
-use mathlib.Core.Bool.{Bool, true, false, _&&_}
+use mathlib.Core.Bool.{Bool, false}
 use mathlib.Core.Option.{Option, none, some}
 use mathlib.Core.List.{List, []}
 use Prim.Native.Nat.{ℕ}
