@@ -15,6 +15,7 @@ use Rattle.records.specs.declared.FieldList.{FieldList}
 use Rattle.records.specs.declared.Record.{Record}
 use Rattle.records.specs.declared.octets.Asked.{Asked}
 
+-- the list that is asked
 abbrev pub listOf : Record → Bool → FieldList
 listOf r hardware = pick hardware (r .hardware) (r .software)
 
@@ -27,6 +28,7 @@ askedOf null present start size len = got none
 askedOf octets present start size len = pick present (guard (inside start size len) illShaped 0 (got (some (start, size)))) (got none)
 askedOf root present start size len = got none
 
+-- the same of a list's row k
 unfoldable pub askedAt : FieldList → ℕ → ℕ → Answer (Option (ℕ × ℕ))
 askedAt l k len = askedOf (rowAt k .kind) (getD (l .present) k false) (getD (l .values) k 0) (getD (l .sizes) k 0) len
 
@@ -40,9 +42,11 @@ partAsked s (got (some p)) = octetsAt s (p .0) (p .1)
 partAsked s (got none) = []
 partAsked s (refused number place) = []
 
+-- "handed back as the very part of the caller's extension that holds it"
 abbrev pub octetFieldOf : List ℕ → Record → Bool → ℕ → List ℕ
 octetFieldOf s r hardware number = partAsked s (askedOctets r hardware number (length s))
 
+-- the code's answer in these terms
 abbrev pub ofAsked : Asked → Answer (Option (ℕ × ℕ))
 ofAsked (Asked.At start size) = got (some (start, size))
 ofAsked Asked.Absent = got none

@@ -12,10 +12,11 @@ use Rattle.records.specs.declared.FieldList.{FieldList}
 use Rattle.records.specs.declared.Record.{Record}
 use Rattle.records.specs.Content.{partOf, valueAt}
 
--- whether row k's field is present, and what it says
+-- whether row k's field is present
 abbrev pub presentAt : FieldList → ℕ → Bool
 presentAt l k = getD (l .present) k false
 
+-- what its field says, were it present
 abbrev pub contentAt : FieldList → List ℕ → ℕ → Value
 contentAt l s k = valueAt l s (rowAt k .number) (rowAt k .kind) k
 
@@ -24,9 +25,11 @@ pub record SameRow (l : FieldList) (s : List ℕ) (l′ : FieldList) (s′ : Lis
   pub held : presentAt l k ≡ presentAt l′ k
   pub says : presentAt l k ≡ true → contentAt l s k ≡ contentAt l′ s′ k
 
+-- every row of two lists
 abbrev pub SameFields : FieldList → List ℕ → FieldList → List ℕ → Type 0
 SameFields l s l′ s′ = (k : ℕ) → k < 42 → SameRow l s l′ s′ k
 
+-- "equal exactly when both versions, both levels, challenge, uniqueId" and the lists are the same
 pub record Equal (r : Record) (s : List ℕ) (r′ : Record) (s′ : List ℕ) : Type 0 where
   pub version : r .attestation .version ≡ r′ .attestation .version
   pub level : r .attestation .level ≡ r′ .attestation .level

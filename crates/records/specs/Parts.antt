@@ -16,6 +16,7 @@ use Rattle.records.specs.declared.Record.{Record}
 abbrev pub inside : ℕ → ℕ → ℕ → Bool
 inside start size len = leb (start + size) len
 
+-- the same of a part
 abbrev pub partInside : Part → ℕ → Bool
 partInside p len = inside (p .start) (p .len) len
 
@@ -32,14 +33,17 @@ contentInside null start size t len = true
 contentInside octets start size t len = inside start size len
 contentInside root start size t len = rootInside t len
 
+-- "an absent field's .. are never looked at"
 unfoldable pub rowInside : FieldList → ℕ → ℕ → Bool
 rowInside l len k =
     pick (getD (l .present) k false)
     (contentInside (rowAt k .kind) (getD (l .values) k 0) (getD (l .sizes) k 0) (l .root) len)
     true
 
+-- every row of a list
 unfoldable pub listInside : FieldList → ℕ → Bool
 listInside l len = allBelow (rowInside l len) 42
 
+-- "the challenge, the uniqueId and those of present fields"
 unfoldable pub partsInside : Record → ℕ → Bool
 partsInside r len = partInside (r .challenge) len && (partInside (r .unique) len && (listInside (r .software) len && listInside (r .hardware) len))

@@ -24,6 +24,7 @@ memberShaped l (suc i) = leb (getD l (suc i) 0) top32 && ltb (getD l i 0) (getD 
 unfoldable pub setShaped : NumberSet → Bool
 setShaped g = leb (g .count) 16 && allBelow (memberShaped (g .members)) (g .count)
 
+-- both, or neither
 abbrev pub same : Bool → Bool → Bool
 same true b = b
 same false b = not b
@@ -48,6 +49,7 @@ rowShaped v l k =
     (heldIn v (rowAt k) && valueShaped v (rowAt k .kind) (getD (l .values) k 0) (setAt l (rowAt k .number)) (l .root))
     true
 
+-- every row of a list
 unfoldable pub listShaped : ℕ → FieldList → Bool
 listShaped v l = allBelow (rowShaped v l) 42
 
@@ -59,6 +61,7 @@ headShaped version level keymint keymintLevel =
     && (leb level (levelTop version)
     && leb keymintLevel (levelTop version)))
 
+-- "It is well-shaped when .."
 unfoldable pub wellShapedRecord : Record → Bool
 wellShapedRecord r =
     headShaped (r .attestation .version) (r .attestation .level) (r .keymint .version) (r .keymint .level)
