@@ -1,0 +1,21 @@
+-- `records::octets::ask_octets` meets its contract: it asks the list that is meant. Assumes nothing.
+use mathlib.Core.Path.{ap, _∙_}
+use Rattle.schema.specs.Table.{rows, indexOf}
+use Rattle.records.specs.declared.FieldList.{FieldList}
+use Rattle.records.specs.Asked.{askedAt, askedOctets}
+use borrow.Author.Needs.{needs}
+use Rattle.records.proofs.octets.ask_octets.Statement.{statement}
+use Rattle.records.proofs.octets.ask_octets.Tie as tie
+
+list-of-requires : tie.Need-list-of-requires
+list-of-requires c κs = search needs
+
+ask-list-requires : tie.Need-ask-list-requires
+ask-list-requires c κs = search needs
+
+returns : tie.Need-returns
+unfolding askedOctets
+returns c = c .ask-list .ensures ∙ ap (λ (l : FieldList). askedAt l (indexOf rows (c .before .before .args .number)) (c .before .before .args .len)) (c .before .list-of .ensures)
+
+pub ask-octets-spec : {M : Type 1} → statement M
+ask-octets-spec = tie.close (tie.spec list-of-requires ask-list-requires returns)
