@@ -14,9 +14,11 @@ pub record Output : Type 0 where
 abbrev pub output : List ℕ → ℕ → Output
 output xs p = record { octets = xs; place = p }
 
+-- one octet; past the end nothing is stored, and the place stays
 unfoldable pub put : Output → ℕ → Output
 put o b = pick (ltb (o .place) (length (o .octets))) (output (set (o .octets) (o .place) b) (o .place + 1)) o
 
+-- octets one after the other
 unfoldable pub puts : Output → List ℕ → Output
 puts o [] = o
 puts o (b ∷ bs) = puts (put o b) bs

@@ -12,7 +12,7 @@ use Rattle.records.specs.declared.FieldList.{FieldList}
 use Rattle.records.specs.Content.{valueAt}
 use Rattle.listing.specs.declared.Listed.{Listed}
 
--- how often a value of a kind shows all the bytes, at two digits an octet
+-- how many octets of text a value has for each of the n bytes: two digits an octet, and 704 has two octet parts
 abbrev pub parts : Kind → ℕ
 parts set = 0
 parts number32 = 0
@@ -25,10 +25,11 @@ parts root = 4
 abbrev pub fieldOf : FieldList → List ℕ → ℕ → Field
 fieldOf l s k = field (rowAt k .number) (valueAt l s (rowAt k .number) (rowAt k .kind) k)
 
--- the line of a row, and those of the rows before the k-th
+-- at most 384 octets of a row's line are not digits of octets
 abbrev pub lineRoom : ℕ → ℕ → ℕ
 lineRoom n k = 384 + parts (rowAt k .kind) * n
 
+-- the lines of the rows before the k-th
 abbrev pub linesRoom : ℕ → ℕ → ℕ
 linesRoom n zero = 0
 linesRoom n (suc k) = linesRoom n k + lineRoom n k
@@ -41,6 +42,7 @@ needed n = 32768 + 56 * n
 abbrev pub refusalNeeded : ℕ
 refusalNeeded = 64
 
+-- a short output is document 01's 21, "output shorter", place 0
 abbrev pub ofListed : Listed → Answer ℕ
 ofListed (Listed.Wrote n) = got n
 ofListed Listed.Short = refused outputShort 0

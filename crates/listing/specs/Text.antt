@@ -83,13 +83,16 @@ decimal (suc n) = digits (suc n) (suc n)
 unfoldable pub hexDigit : ℕ → ℕ
 hexDigit n = pick (ltb n 10) (48 + n) (87 + n)
 
+-- an octet's two digits
 unfoldable pub hexPair : ℕ → List ℕ
 hexPair b = hexDigit (b / 16) ∷ hexDigit (b % 16) ∷ []
 
+-- those of octets, one after the other
 unfoldable pub hexText : List ℕ → List ℕ
 hexText [] = []
 hexText (b ∷ bs) = hexPair b ++ hexText bs
 
+-- '"-" stands for empty octets'
 unfoldable pub octetsText : List ℕ → List ℕ
 octetsText [] = dash
 octetsText (b ∷ bs) = hexText (b ∷ bs)
@@ -99,6 +102,7 @@ unfoldable pub moreNumbers : List ℕ → List ℕ
 moreNumbers [] = []
 moreNumbers (n ∷ ns) = space ++ (decimal n ++ moreNumbers ns)
 
+-- '"-" stands for .. an empty set'
 unfoldable pub numbersText : List ℕ → List ℕ
 numbersText [] = dash
 numbersText (n ∷ ns) = decimal n ++ moreNumbers ns
@@ -121,6 +125,7 @@ stateText locked state = space ++ (lockedText locked ++ (space ++ decimal state)
 unfoldable pub rootText : Root → List ℕ
 rootText r = octetsText (r .key) ++ (stateText (r .locked) (r .state) ++ hashText (r .hash))
 
+-- what stands after a field's number, by its kind: a present NULL is "yes"
 unfoldable pub valueText : Value → List ℕ
 valueText (num n) = decimal n
 valueText nul = yesWord
@@ -134,19 +139,24 @@ valueText (trust r) = rootText r
 unfoldable pub named : List ℕ → ℕ → List ℕ
 named word n = word ++ decimal n
 
+-- "version 3 level 1"
 unfoldable pub numbersLine : List ℕ → ℕ → List ℕ → ℕ → List ℕ
 numbersLine first a second b = named first a ++ (named second b ++ newline)
 
+-- "challenge 010203"
 unfoldable pub octetsLine : List ℕ → List ℕ → List ℕ
 octetsLine word bs = word ++ (octetsText bs ++ newline)
 
+-- "hardware 503 yes"
 unfoldable pub fieldLine : List ℕ → Field → List ℕ
 fieldLine word f = named word (f .number) ++ (space ++ (valueText (f .value) ++ newline))
 
+-- the present fields of a list
 unfoldable pub fieldLines : List ℕ → List Field → List ℕ
 fieldLines word [] = []
 fieldLines word (f ∷ fs) = fieldLine word f ++ fieldLines word fs
 
+-- "elements 26"
 unfoldable pub countLine : ℕ → List ℕ
 countLine k = named elementsWord k ++ newline
 

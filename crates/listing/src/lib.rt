@@ -1,4 +1,7 @@
 // The listing of a record or a refusal as text (document 01, "One extension, whole"), put into a lent output.
+//
+// Each put function writes its text from a place on, nothing past the output's end, and answers the next place. Its
+// contract, Puts, also bounds the text's length, so that list_record knows without counting when all of it fits.
 use records::FieldList;
 use records::NumberSet;
 use records::Part;
@@ -14,7 +17,7 @@ ghost use lib.ListN.{length, drop};
 ghost use Rattle.codec.specs.Octets.{left};
 ghost use Rattle.schema.specs.Rows.{ofKind};
 ghost use Rattle.records.specs.Content.{partOf, membersOf, rootOf, setAt, valueAt, fieldsOf, contentOf};
-ghost use Rattle.listing.specs.Text.{decimal, hexDigit, hexText, octetsText, moreNumbers, numbersText, lockedText, stateText, rootText, valueText, named, numbersLine, octetsLine, fieldLine, fieldLines, countLine, headText, contentText, refusalText};
+ghost use Rattle.listing.specs.Text.{dash, decimal, hexDigit, hexText, octetsText, moreNumbers, numbersText, lockedText, stateText, rootText, valueText, named, numbersLine, octetsLine, fieldLine, fieldLines, countLine, headText, contentText, refusalText};
 ghost use Rattle.listing.specs.Put.{Puts};
 ghost use Rattle.listing.specs.Room.{parts, fieldOf, lineRoom, needed, refusalNeeded, ofListed, listed};
 
@@ -53,6 +56,7 @@ fn put_decimal(out: &mut [u8], at: usize, n: u64) -> usize
     put_octet(out, p, b'0' + (n % 10) as u8)
 }
 
+// A digit of lower-case hex; 87 + 10 is 'a'.
 fn hex_digit(n: u8) -> u8
     requires { ⌜ n < 16 ⌝ }
     ensures { λ r. ⌜ r ≡ hexDigit n ⌝ }
@@ -75,6 +79,13 @@ fn put_hex(out: &mut [u8], at: usize, s: &[u8]) -> usize
     p
 }
 
+// What stands for empty octets or an empty set.
+fn put_none(out: &mut [u8], at: usize) -> usize
+    ensures { λ r. ⌜ Puts (now (out .entry)) at dash 1 (now (out .exit)) r ⌝ }
+{
+    put_text(out, at, b"-")
+}
+
 // A part of s, "-" where it has no octets. What lies outside s is left out.
 fn put_part(out: &mut [u8], at: usize, s: &[u8], part: Part) -> usize
     ensures { λ r. ⌜ Puts (now (out .entry)) at (octetsText (partOf (now (s .entry)) part)) (2 * length (now (s .entry)) + 1) (now (out .exit)) r ⌝ }
@@ -83,10 +94,10 @@ fn put_part(out: &mut [u8], at: usize, s: &[u8], part: Part) -> usize
     let len = part.len;
     let n = s.len();
     if n <= start {
-        return put_text(out, at, b"-");
+        return put_none(out, at);
     }
     if len == 0 {
-        return put_text(out, at, b"-");
+        return put_none(out, at);
     }
     if n - start <= len {
         return put_hex(out, at, &s[start..n]);
@@ -120,13 +131,14 @@ fn put_set(out: &mut [u8], at: usize, g: NumberSet) -> usize
     ensures { λ r. ⌜ Puts (now (out .entry)) at (numbersText (membersOf g)) 335 (now (out .exit)) r ⌝ }
 {
     if g.count == 0 {
-        return put_text(out, at, b"-");
+        return put_none(out, at);
     }
     let first = g.members[0];
     let p = put_decimal(out, at, first as u64);
     put_more(out, p, g)
 }
 
+// "locked 0 or 1".
 fn locked_digit(locked: bool) -> u8
     ensures { λ r. ⌜ (r ∷ []) ≡ lockedText locked ⌝ }
 {

@@ -4,11 +4,8 @@ use Rattle.listing.proofs.put_part.Statement.{statement}
 use Rattle.listing.proofs.put_part.Tie as tie
 use Rattle.listing.proofs.Writes.{part-none, part-zero, part-rest, part-whole}
 
-slice-aggregate-put-text : tie.Need-slice-aggregate-put-text
-slice-aggregate-put-text c = search needs
-
-put-text-requires : tie.Need-put-text-requires
-put-text-requires c κs = search needs
+put-none-requires : tie.Need-put-none-requires
+put-none-requires c κs = search needs
 
 same-length : tie.Need-same-length
 same-length c = search needs
@@ -16,11 +13,8 @@ same-length c = search needs
 returns : tie.Need-returns
 returns c = search part-none
 
-slice-aggregate-put-text-2 : tie.Need-slice-aggregate-put-text-2
-slice-aggregate-put-text-2 c = search needs
-
-put-text-requires-2 : tie.Need-put-text-requires-2
-put-text-requires-2 c κs = search needs
+put-none-requires-2 : tie.Need-put-none-requires-2
+put-none-requires-2 c κs = search needs
 
 same-length-2 : tie.Need-same-length-2
 same-length-2 c = search needs
@@ -74,12 +68,10 @@ pub put-part-spec : {M : Type 1} → statement M
 put-part-spec =
     tie.close
     (tie.spec
-    slice-aggregate-put-text
-    put-text-requires
+    put-none-requires
     same-length
     returns
-    slice-aggregate-put-text-2
-    put-text-requires-2
+    put-none-requires-2
     same-length-2
     returns-2
     sub-if3

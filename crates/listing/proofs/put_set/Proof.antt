@@ -4,11 +4,8 @@ use Rattle.listing.proofs.put_set.Statement.{statement}
 use Rattle.listing.proofs.put_set.Tie as tie
 use Rattle.listing.proofs.Writes.{set-none, set-some}
 
-slice-aggregate-put-text : tie.Need-slice-aggregate-put-text
-slice-aggregate-put-text c = search needs
-
-put-text-requires : tie.Need-put-text-requires
-put-text-requires c κs = search needs
+put-none-requires : tie.Need-put-none-requires
+put-none-requires c κs = search needs
 
 same-length : tie.Need-same-length
 same-length c = search needs
@@ -38,8 +35,7 @@ pub put-set-spec : {M : Type 1} → statement M
 put-set-spec =
     tie.close
     (tie.spec
-    slice-aggregate-put-text
-    put-text-requires
+    put-none-requires
     same-length
     returns
     element-copy-out-first
