@@ -1,0 +1,5 @@
+pub mod Sample
+pub mod Joins
+pub mod Texts
+pub mod Decimal
+pub mod Writes
