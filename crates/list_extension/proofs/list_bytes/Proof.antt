@@ -23,17 +23,19 @@ same-length : tie.Need-same-length
 same-length c = search needs
 
 returns : tie.Need-returns
-returns c =
-    (accepted-lists (c .before .before .before .before .before .before .before .before .before .before .before .args .s .now) (c .before .before .before .before .before .before .before .before .before .before .before .args .out .now) _ _ (c .before .before .before .before .before .before .before .before .read .ensures .0) (c .before .before .before .before .before .outcome .given .1) (c .before .before .list-record .ensures .0),
-    accepted-leaves (c .before .before .before .before .before .before .before .before .before .before .before .args .s .now) (c .before .before .before .before .before .before .before .before .before .before .before .args .out .now) _ _ (c .before .before .before .before .before .before .before .before .read .ensures .0) (c .before .before .before .before .before .outcome .given .1) (c .before .before .list-record .ensures .1))
+returns c = (
+  accepted-lists (c .before .before .before .before .before .before .before .before .before .before .before .args .s .now) (c .before .before .before .before .before .before .before .before .before .before .before .args .out .now) _ _ (c .before .before .before .before .before .before .before .before .read .ensures .0) (c .before .before .before .before .before .outcome .given .1) (c .before .before .list-record .ensures .0),
+  accepted-leaves (c .before .before .before .before .before .before .before .before .before .before .before .args .s .now) (c .before .before .before .before .before .before .before .before .before .before .before .args .out .now) _ _ (c .before .before .before .before .before .before .before .before .read .ensures .0) (c .before .before .before .before .before .outcome .given .1) (c .before .before .list-record .ensures .1),
+)
 
 same-length-2 : tie.Need-same-length-2
 same-length-2 c = search needs
 
 returns-2 : tie.Need-returns-2
-returns-2 c =
-    (refused-lists (c .before .before .before .before .before .before .before .before .before .before .before .args .s .now) (c .before .before .before .before .before .before .before .before .before .before .before .args .out .now) _ _ (c .before .before .before .before .before .before .before .before .read .ensures .0) (c .before .before .before .before .before .outcome2 .given .1) (c .before .before .list-refusal .ensures .0),
-    refused-leaves (c .before .before .before .before .before .before .before .before .before .before .before .args .s .now) (c .before .before .before .before .before .before .before .before .before .before .before .args .out .now) _ _ (c .before .before .before .before .before .before .before .before .read .ensures .0) (c .before .before .before .before .before .outcome2 .given .1) (c .before .before .list-refusal .ensures .1))
+returns-2 c = (
+  refused-lists (c .before .before .before .before .before .before .before .before .before .before .before .args .s .now) (c .before .before .before .before .before .before .before .before .before .before .before .args .out .now) _ _ (c .before .before .before .before .before .before .before .before .read .ensures .0) (c .before .before .before .before .before .outcome2 .given .1) (c .before .before .list-refusal .ensures .0),
+  refused-leaves (c .before .before .before .before .before .before .before .before .before .before .before .args .s .now) (c .before .before .before .before .before .before .before .before .before .before .before .args .out .now) _ _ (c .before .before .before .before .before .before .before .before .read .ensures .0) (c .before .before .before .before .before .outcome2 .given .1) (c .before .before .list-refusal .ensures .1),
+)
 
 pub list-bytes-spec : {M : Type 1} → statement M
 list-bytes-spec =
