@@ -1,4 +1,3 @@
-pub mod Sample
 pub mod Joins
 pub mod Texts
 pub mod Decimal

@@ -2,11 +2,15 @@
 use mathlib.Core.Path.{refl}
 use Rattle.answer.specs.Answer.{guard, bind, pick}
 use Rattle.codec.specs.Octets.{octet}
+use Rattle.codec.specs.Integer.{integerOf}
 use Rattle.codec.specs.Header.{holds, readHighNumber, readIdentifier, readLength, reportedPlace, reported, readHeader}
-use Rattle.codec.specs.Element.{exactly}
+use Rattle.codec.specs.Element.{element, tagged, exactly, both, chainFuel, chain, under}
 use Rattle.codec.specs.Tree.{nodes, run, walkElement, firstPass}
+use Rattle.schema.specs.Table.{rows, knownVersion, heldIn, find, levelTop, hashed}
+use Rattle.schema.specs.Decode.{readInteger, readEnumerated, readOctets, booleanOf, readBoolean, nullOf, readNull, readMember, readSet, readHash, rootParts, readRoot, contentOf, rowContent, fieldContent, readField, readList, readVersion, readEight, decode, read}
+use Rattle.listing.specs.Text.{digits, decimal, hexDigit, hexPair, hexText, octetsText, moreNumbers, numbersText, lockedText, hashText, stateText, rootText, valueText, named, numbersLine, octetsLine, fieldLine, fieldLines, countLine, headText, contentText, refusalText, listing}
 use Rattle.marked_cases.specs.Cases.{Holds, Every, cases}
 
 pub marked-cases : Every cases
-unfolding cases Every Holds firstPass exactly walkElement run nodes holds readHeader reported reportedPlace readIdentifier readHighNumber readLength octet guard bind pick
-marked-cases = (refl, (refl, (refl, (refl, tt))))
+unfolding cases Every Holds listing contentText refusalText headText countLine fieldLines fieldLine octetsLine numbersLine named valueText rootText stateText hashText lockedText numbersText moreNumbers octetsText hexText hexPair hexDigit decimal digits read decode readEight readVersion readList readField fieldContent rowContent contentOf readRoot rootParts readHash readSet readMember readNull nullOf readBoolean booleanOf readOctets readEnumerated readInteger integerOf rows knownVersion heldIn find levelTop hashed element tagged exactly both chain chainFuel under firstPass walkElement run nodes holds readHeader reported reportedPlace readIdentifier readHighNumber readLength octet guard bind pick
+marked-cases = (refl, (refl, (refl, (refl, (refl, tt)))))
