@@ -1,0 +1,16 @@
+-- The count of what the reader answers is that of what the definition answers. Assumes nothing.
+use mathlib.Core.Path.{_≡_, ap, sym, _∙_}
+use mathlib.Core.List.{List}
+use Prim.Native.Nat.{ℕ}
+use Rattle.records.specs.declared.Record.{Record}
+use Rattle.reader.specs.declared.Outcome.{Outcome}
+use Rattle.reader.specs.Reading.{ofReading}
+use Rattle.schema.specs.Decode.{read}
+use Rattle.bench_read.specs.Elements.{countOr0}
+
+module _ (s : List ℕ) (o : Outcome) (g : Record) (is : ofReading s o g ≡ read s) where
+  pub is-count : (n : ℕ) → o ≡ Outcome.Accepted n → n ≡ countOr0 (read s)
+  is-count n w = ap (λ (x : Outcome). countOr0 (ofReading s x g)) (sym w) ∙ ap countOr0 is
+
+  pub is-none : (k p : ℕ) → o ≡ Outcome.Refused k p → 0 ≡ countOr0 (read s)
+  is-none k p w = ap (λ (x : Outcome). countOr0 (ofReading s x g)) (sym w) ∙ ap countOr0 is
