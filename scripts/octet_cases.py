@@ -1,7 +1,7 @@
 #!/usr/bin/env python3
 """Writes the input and the expected output of the program octet_cases: crates/octet_cases/stdin and stdout.
 
-The cases are the sample cases in cases/octets.jsonl. Each states its answer beside its record, not from a run. A case
+The cases are the sample cases in cases/octets.jsonl and those at a buffer's end below. Each states its answer beside its record, not from a run. A case
 that the record's types cannot hold is left out. With --check nothing is written, and the exit status says whether both
 files are as this script would write them.
 """
@@ -68,6 +68,25 @@ with open(os.path.join(ROOT, "cases", "octets.jsonl"), encoding="utf-8") as line
         sample = json.loads(line)
         if held(sample):
             case(place, sample)
+
+
+def edge(at, start, size, room, want):
+    """Field 709 of the hardware list alone, a part at the edge of its buffer."""
+    record = {"software": [], "hardware": [[709, "oct", [start, size]]]}
+    case(at, {"record": record, "list": "hardware", "number": 709, "buffer_len": room, "want": want})
+
+
+TOP = 2**64 - 1
+edge(1001, 0, 100, 100, ["part", 0, 100])
+edge(1002, 0, 101, 100, ["refused", 20, 0])
+edge(1003, 99, 1, 100, ["part", 99, 1])
+edge(1004, 99, 2, 100, ["refused", 20, 0])
+edge(1005, 100, 0, 100, ["part", 100, 0])
+edge(1006, 101, 0, 100, ["refused", 20, 0])
+edge(1007, 1, TOP, 100, ["refused", 20, 0])
+edge(1008, TOP, 1, 100, ["refused", 20, 0])
+edge(1009, TOP - 9, 20, 100, ["refused", 20, 0])
+edge(1010, 0, 0, 0, ["part", 0, 0])
 
 
 def main():

@@ -1,9 +1,10 @@
 #!/usr/bin/env python3
-"""Writes the input and the expected output of the program reader_cases: crates/reader_cases/stdin and stdout.
+"""Writes the input and the expected output of the program reader_cases, crates/reader_cases/stdin and stdout, and the
+expected output of the program table_cases, crates/table_cases/stdout.
 
 The cases are the sample cases in cases/reader.jsonl and those below. Each states its answer beside its bytes, from
 document 01 and the schemas printed in source document 001, not from a run. With --check nothing is written, and the
-exit status says whether both files are as this script would write them.
+exit status says whether the files are as this script would write them.
 """
 import json
 import os
@@ -194,14 +195,15 @@ case("locked is 01", extension(3, explicit(704, sequence(octets(b""), element(b"
 
 
 def main():
-    base = os.path.join(ROOT, "crates", "reader_cases")
+    table = "".join("%d: %s\n" % (version, " ".join(map(str, numbers))) for version, numbers in FIELDS.items())
     good = True
-    for name, data in (("stdin", bytes(stdin)), ("stdout", "".join(stdout).encode())):
-        path = os.path.join(base, name)
+    for name, data in (("reader_cases/stdin", bytes(stdin)), ("reader_cases/stdout", "".join(stdout).encode()),
+                       ("table_cases/stdout", table.encode())):
+        path = os.path.join(ROOT, "crates", name)
         if "--check" in sys.argv[1:]:
             with open(path, "rb") as kept:
                 if kept.read() != data:
-                    print("%s is not what scripts/reader_cases.py writes" % os.path.relpath(path, ROOT))
+                    print("crates/%s is not what scripts/reader_cases.py writes" % name)
                     good = False
         else:
             with open(path, "wb") as out:
