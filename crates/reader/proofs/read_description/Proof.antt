@@ -1,3 +1,4 @@
+-- `read_description` meets its contract: the outermost SEQUENCE, the eight in it, and nothing after either. Assumes nothing.
 use lib.ListN.{length}
 use denote.Ref.{now}
 use Rattle.reader.proofs.Open.{tagged-inside}
@@ -6,69 +7,49 @@ use Rattle.reader.proofs.Readings.{read-no, read-eight-no, read-extra, 
 use borrow.Author.Needs.{needs}
 use Rattle.reader.proofs.read_description.Statement.{statement}
 use Rattle.reader.proofs.read_description.Tie as tie
-use Rattle.reader.proofs.read_description.Reads as reads
-use Rattle.reader.proofs.read_description.Lts as lts
-use Rattle.reader.proofs.eight.read_eight.Reads as read-eight-reads
-use Rattle.reader.proofs.element.open_tagged.Reads as open-tagged-reads
-use Rattle.reader.proofs.refused.Reads as refused-reads
 
--- src/lib.rt:53:11
 open-tagged-requires : tie.Need-open-tagged-requires
 open-tagged-requires c κs = search needs
 
--- src/lib.rt:54:25
 enum-known-k : tie.Need-enum-known-k
 enum-known-k c = search needs
 
--- src/lib.rt:54:38
 refused-requires : tie.Need-refused-requires
 refused-requires c κs = search needs
 
--- src/lib.rt:55:20
 enum-known-body : tie.Need-enum-known-body
 enum-known-body c = search needs
 
--- src/lib.rt:56:17
 read-eight-requires : tie.Need-read-eight-requires
 read-eight-requires c κs = omega (arith, tagged-inside 0 (length (now (c .before .before .before .before .before .args .s))) _ _ _ (c .before .before .before .open-tagged .ensures .1) (c .before .body .given .1))
 
--- src/lib.rt:60:31
 enum-known-step : tie.Need-enum-known-step
 enum-known-step c = search needs
 
--- src/lib.rt:60:44
 refused-requires-2 : tie.Need-refused-requires-2
 refused-requires-2 c κs = search needs
 
--- src/lib.rt:61:28
 enum-known-step-2 : tie.Need-enum-known-step-2
 enum-known-step-2 c = search needs
 
--- src/lib.rt:63:25
 refused-requires-3 : tie.Need-refused-requires-3
 refused-requires-3 c κs = search needs
 
--- src/lib.rt:63:25
 returns : tie.Need-returns
 returns c = (search (read-no, read-eight-no, read-extra, read-spare, read-is), search (needs, refused-empty))
 
--- src/lib.rt:66:25
 refused-requires-4 : tie.Need-refused-requires-4
 refused-requires-4 c κs = search needs
 
--- src/lib.rt:66:25
 returns-2 : tie.Need-returns-2
 returns-2 c = (read-spare (now (c .before .before .before .before .before .before .before .before .before .before .before .before .before .args .s)) (c .before .before .before .before .before .before .before .before .before .before .before .before .before .args .count) (c .before .before .before .before .before .before .before .before .before .before .before .open-tagged .result) (c .before .before .before .before .before .before .before .before .before .before .before .open-tagged .ensures .0) _ _ (c .before .before .before .before .before .before .before .before .before .body .given .1) (c .before .before .before .before .before .before .before .before .before .before .before .open-tagged .ensures .1) (c .before .before .before .before .before .before .before .read-eight .result .step) (c .before .before .before .before .before .before .before .read-eight .result .said) (c .before .before .before .before .before .before .before .read-eight .ensures .0) _ (c .before .before .before .before .step2 .given .1) (c .before .before .before .before .before .before .before .read-eight .ensures .1) (c .before .before .if1 .left) (c .refused4 .result) (c .before .if2 .taken) (c .refused4 .ensures), refused-empty _ _ (c .refused4 .result) (c .refused4 .ensures))
 
--- src/lib.rt:48:1
 returns-3 : tie.Need-returns-3
 returns-3 c = (search (read-no, read-eight-no, read-extra, read-spare, read-is), search (needs, refused-empty))
 
--- src/lib.rt:48:1
 returns-4 : tie.Need-returns-4
 returns-4 c = (search (read-no, read-eight-no, read-extra, read-spare, read-is), search (needs, refused-empty))
 
--- src/lib.rt:48:1
 returns-5 : tie.Need-returns-5
 returns-5 c = (search (read-no, read-eight-no, read-extra, read-spare, read-is), search (needs, refused-empty))
 

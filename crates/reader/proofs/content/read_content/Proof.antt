@@ -1,84 +1,60 @@
+-- `read_content` meets its contract: the content of each of the six kinds. Assumes nothing.
 use Rattle.reader.proofs.Contents.{as-number32, as-number64, as-null, as-octets, as-set, as-root}
 use borrow.Author.Needs.{needs}
 use Rattle.reader.proofs.content.read_content.Statement.{statement}
 use Rattle.reader.proofs.content.read_content.Tie as tie
-use Rattle.reader.proofs.content.read_content.Reads as reads
-use Rattle.reader.proofs.content.read_content.Lts as lts
-use Rattle.reader.proofs.content.null_content.Reads as null-content-reads
-use Rattle.reader.proofs.content.number_content.Reads as number-content-reads
-use Rattle.reader.proofs.content.octets_content.Reads as octets-content-reads
-use Rattle.reader.proofs.content.root_content.Reads as root-content-reads
-use Rattle.reader.proofs.content.set_content.Reads as set-content-reads
 
--- src/content.rt:145:27
 enum-told : tie.Need-enum-told
 enum-told c = search needs
 
--- src/content.rt:145:27
 number-content-requires : tie.Need-number-content-requires
 number-content-requires c κs = search needs
 
--- src/content.rt:146:27
 enum-told-2 : tie.Need-enum-told-2
 enum-told-2 c = search needs
 
--- src/content.rt:146:27
 number-content-requires-2 : tie.Need-number-content-requires-2
 number-content-requires-2 c κs = search needs
 
--- src/content.rt:147:23
 enum-told-3 : tie.Need-enum-told-3
 enum-told-3 c = search needs
 
--- src/content.rt:147:23
 null-content-requires : tie.Need-null-content-requires
 null-content-requires c κs = search needs
 
--- src/content.rt:148:25
 enum-told-4 : tie.Need-enum-told-4
 enum-told-4 c = search needs
 
--- src/content.rt:148:25
 octets-content-requires : tie.Need-octets-content-requires
 octets-content-requires c κs = search needs
 
--- src/content.rt:149:22
 enum-told-5 : tie.Need-enum-told-5
 enum-told-5 c = search needs
 
--- src/content.rt:149:22
 set-content-requires : tie.Need-set-content-requires
 set-content-requires c κs = search needs
 
--- src/content.rt:150:23
 enum-told-6 : tie.Need-enum-told-6
 enum-told-6 c = search needs
 
--- src/content.rt:150:23
 root-content-requires : tie.Need-root-content-requires
 root-content-requires c κs = search needs
 
--- src/content.rt:140:1
 returns : tie.Need-returns
 returns c = search (as-number32, as-number64, as-null, as-octets, as-set, as-root)
 
--- src/content.rt:140:1
 returns-2 : tie.Need-returns-2
 returns-2 c = search (as-number32, as-number64, as-null, as-octets, as-set, as-root)
 
--- src/content.rt:140:1
 returns-3 : tie.Need-returns-3
 returns-3 c = search (as-number32, as-number64, as-null, as-octets, as-set, as-root)
 
--- src/content.rt:140:1
 returns-4 : tie.Need-returns-4
 returns-4 c = search (as-number32, as-number64, as-null, as-octets, as-set, as-root)
 
--- src/content.rt:140:1
 returns-5 : tie.Need-returns-5
 returns-5 c = search (as-number32, as-number64, as-null, as-octets, as-set, as-root)
 
--- src/content.rt:140:1
 returns-6 : tie.Need-returns-6
 returns-6 c = search (as-number32, as-number64, as-null, as-octets, as-set, as-root)
 

@@ -1,3 +1,4 @@
+-- `read_eight` meets its contract: the six before the lists, and the two lists as the version has them. Assumes nothing.
 use denote.Ref.{now}
 use Rattle.reader.proofs.Eights.{refused-inside, head-inside, step-in}
 use native.Mathlib.Omega.{arith}
@@ -5,73 +6,52 @@ use Rattle.reader.proofs.Eights.{eight-no, eight-no-software, eight-no-
 use borrow.Author.Needs.{needs}
 use Rattle.reader.proofs.eight.read_eight.Statement.{statement}
 use Rattle.reader.proofs.eight.read_eight.Tie as tie
-use Rattle.reader.proofs.eight.read_eight.Reads as reads
-use Rattle.reader.proofs.eight.read_eight.Lts as lts
-use Rattle.reader.proofs.eight.refused_eight.Reads as refused-eight-reads
-use Rattle.reader.proofs.fields.read_list.Reads as read-list-reads
-use Rattle.reader.proofs.head.read_head.Reads as read-head-reads
 
--- src/eight.rt:58:11
 read-head-requires : tie.Need-read-head-requires
 read-head-requires c κs = search needs
 
--- src/eight.rt:59:23
 enum-known-k : tie.Need-enum-known-k
 enum-known-k c = search needs
 
--- src/eight.rt:59:36
 refused-eight-requires : tie.Need-refused-eight-requires
 refused-eight-requires c κs = search needs
 
--- src/eight.rt:61:13
 enum-known-attestation : tie.Need-enum-known-attestation
 enum-known-attestation c = search needs
 
--- src/eight.rt:68:17
 read-list-requires : tie.Need-read-list-requires
 read-list-requires c κs = search needs
 
--- src/eight.rt:72:31
 enum-known-after : tie.Need-enum-known-after
 enum-known-after c = search needs
 
--- src/eight.rt:72:44
 refused-eight-requires-2 : tie.Need-refused-eight-requires-2
 refused-eight-requires-2 c κs = search needs
 
--- src/eight.rt:73:28
 enum-known-after-2 : tie.Need-enum-known-after-2
 enum-known-after-2 c = search needs
 
--- src/eight.rt:74:25
 read-list-requires-2 : tie.Need-read-list-requires-2
 read-list-requires-2 c κs = search needs
 
--- src/eight.rt:78:39
 enum-known-last : tie.Need-enum-known-last
 enum-known-last c = search needs
 
--- src/eight.rt:78:52
 refused-eight-requires-3 : tie.Need-refused-eight-requires-3
 refused-eight-requires-3 c κs = search needs
 
--- src/eight.rt:79:36
 enum-known-last-2 : tie.Need-enum-known-last-2
 enum-known-last-2 c = search needs
 
--- src/eight.rt:53:1
 returns : tie.Need-returns
 returns c = (search (eight-no, eight-no-software, eight-no-hardware, eight-is), refused-inside (c .before .before .before .before .before .before .args .at) (c .before .before .before .before .before .before .args .end) _ _ _ (c .refused-eight .ensures))
 
--- src/eight.rt:53:1
 returns-2 : tie.Need-returns-2
 returns-2 c = (search (eight-no, eight-no-software, eight-no-hardware, eight-is), refused-inside (c .before .before .before .before .before .before .before .before .before .before .before .args .at) (c .before .before .before .before .before .before .before .before .before .before .before .args .end) _ _ _ (c .refused-eight2 .ensures))
 
--- src/eight.rt:53:1
 returns-3 : tie.Need-returns-3
 returns-3 c = (eight-no-hardware (now (c .before .before .before .before .before .before .before .before .before .before .before .before .before .before .before .before .args .s)) (c .before .before .before .before .before .before .before .before .before .before .before .before .before .before .before .before .args .at) (c .before .before .before .before .before .before .before .before .before .before .before .before .before .before .before .before .args .end) (c .before .before .before .before .before .before .before .before .before .before .before .before .before .before .read-head .result) (c .before .before .before .before .before .before .before .before .before .before .before .before .before .before .read-head .ensures .0) _ _ _ _ _ (c .before .before .before .before .before .before .before .before .before .before .before .before .attestation .given .1) (c .before .before .before .before .before .before .before .before .before .before .read-list .result .step) (c .before .before .before .before .before .before .before .before .before .before .read-list .result .list) (c .before .before .before .before .before .before .before .before .before .before .read-list .ensures .0) _ (c .before .before .before .before .before .before .before .after2 .given .1) (c .before .before .before .before .before .read-list2 .result .step) (c .before .before .before .before .before .read-list2 .result .list) (c .before .before .before .before .before .read-list2 .ensures .0) _ _ (c .refused-eight3 .result) (c .before .before .last .given .1) (c .refused-eight3 .ensures), refused-inside (c .before .before .before .before .before .before .before .before .before .before .before .before .before .before .before .before .args .at) (c .before .before .before .before .before .before .before .before .before .before .before .before .before .before .before .before .args .end) _ _ _ (c .refused-eight3 .ensures))
 
--- src/eight.rt:53:1
 returns-4 : tie.Need-returns-4
 returns-4 c = (search (eight-no, eight-no-software, eight-no-hardware, eight-is), omega (arith, head-inside (c .before .before .before .before .before .before .before .before .before .before .before .before .before .before .before .args .at) (c .before .before .before .before .before .before .before .before .before .before .before .before .before .before .before .args .end) _ _ _ _ _ _ (c .before .before .before .before .before .before .before .before .before .before .before .before .before .read-head .ensures .1) (c .before .before .before .before .before .before .before .before .before .before .before .attestation .given .1), step-in (c .before .before .before .before .before .before .before .before .before .before .before .attestation .given .0 .1 .1 .1 .1 .0) (c .before .before .before .before .before .before .before .before .before .before .before .before .before .before .before .args .end) _ _ (c .before .before .before .before .before .before .before .before .before .read-list .ensures .1) (c .before .before .before .before .before .before .after2 .given .1), step-in (c .before .before .before .before .before .before .after2 .given .0 .0) (c .before .before .before .before .before .before .before .before .before .before .before .before .before .before .before .args .end) _ _ (c .before .before .before .before .read-list2 .ensures .1) (c .before .last2 .given .1)))
 

@@ -1,37 +1,28 @@
+-- `open_element` meets its contract: a header that lies in its holder, or the header's refusal or 9 at the end. Assumes nothing.
 use native.Mathlib.Omega.{arith}
 use Rattle.reader.proofs.Open.{open-missing, open-no, open-is, header-inside}
 use borrow.Author.Needs.{needs}
 use Rattle.reader.proofs.element.open_element.Statement.{statement}
 use Rattle.reader.proofs.element.open_element.Tie as tie
-use Rattle.reader.proofs.element.open_element.Reads as reads
-use Rattle.reader.proofs.element.open_element.Lts as lts
-use Rattle.der.proofs.header.read_header.Reads as read-header-reads
 
--- src/element.rt:29:9
 returns : tie.Need-returns
 returns c = (search open-missing, search needs)
 
--- src/element.rt:31:11
 read-header-requires : tie.Need-read-header-requires
 read-header-requires c κs = search needs
 
--- src/element.rt:32:25
 enum-known-k : tie.Need-enum-known-k
 enum-known-k c = search needs
 
--- src/element.rt:34:13
 enum-known-form : tie.Need-enum-known-form
 enum-known-form c = search needs
 
--- src/element.rt:42:19
 add-t13 : tie.Need-add-t13
 add-t13 c = omega (arith, header-inside (c .before .before .before .before .before .before .args .at) (c .before .before .before .before .before .before .args .end) _ _ _ _ _ (c .before .before .before .read-header .ensures .1 .0) (c .before .form .given .1))
 
--- src/element.rt:23:1
 returns-2 : tie.Need-returns-2
 returns-2 c = (search open-no, search needs)
 
--- src/element.rt:23:1
 returns-3 : tie.Need-returns-3
 returns-3 c = (search open-is, omega (arith, header-inside (c .before .before .before .before .before .before .args .at) (c .before .before .before .before .before .before .args .end) _ _ _ _ _ (c .before .before .before .read-header .ensures .1 .0) (c .before .form .given .1)))
 

@@ -1,37 +1,27 @@
-use native.Mathlib.Omega.{arith}
+-- `open_tagged` meets its contract: the element of this class, form and number, or 9 at its start. Assumes nothing.
 use Rattle.reader.proofs.Open.{tagged-no, tagged-form, tagged-number, tagged-is, element-inside}
 use borrow.Author.Needs.{needs}
 use Rattle.reader.proofs.element.open_tagged.Statement.{statement}
 use Rattle.reader.proofs.element.open_tagged.Tie as tie
-use Rattle.reader.proofs.element.open_tagged.Reads as reads
-use Rattle.reader.proofs.element.open_tagged.Lts as lts
-use Rattle.reader.proofs.element.open_element.Reads as open-element-reads
 
--- src/element.rt:59:11
 open-element-requires : tie.Need-open-element-requires
 open-element-requires c κs = search needs
 
--- src/element.rt:60:26
 enum-known-k : tie.Need-enum-known-k
 enum-known-k c = search needs
 
--- src/element.rt:62:19
 enum-known-f : tie.Need-enum-known-f
 enum-known-f c = search needs
 
--- src/element.rt:68:17
 returns : tie.Need-returns
 returns c = (search (tagged-no, tagged-form, tagged-number, tagged-is), search (needs, element-inside))
 
--- src/element.rt:71:17
 returns-2 : tie.Need-returns-2
 returns-2 c = (search (tagged-no, tagged-form, tagged-number, tagged-is), search (needs, element-inside))
 
--- src/element.rt:54:1
 returns-3 : tie.Need-returns-3
 returns-3 c = (search (tagged-no, tagged-form, tagged-number, tagged-is), search (needs, element-inside))
 
--- src/element.rt:54:1
 returns-4 : tie.Need-returns-4
 returns-4 c = (search (tagged-no, tagged-form, tagged-number, tagged-is), element-inside (c .before .before .before .before .before .before .before .args .at) (c .before .before .before .before .before .before .before .args .end) _ _ _ _ _ (c .before .before .before .before .before .open-element .ensures .1) (c .before .before .before .f .given .1))
 

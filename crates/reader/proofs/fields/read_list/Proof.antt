@@ -1,3 +1,4 @@
+-- `read_list` meets its contract: the SEQUENCE opened, and its fields. Assumes nothing.
 use native.Mathlib.Omega.{arith}
 use Rattle.reader.proofs.Open.{tagged-inside}
 use Rattle.reader.proofs.Members.{step-inside}
@@ -5,37 +6,25 @@ use Rattle.reader.proofs.Filling.{list-no, list-is}
 use borrow.Author.Needs.{needs}
 use Rattle.reader.proofs.fields.read_list.Statement.{statement}
 use Rattle.reader.proofs.fields.read_list.Tie as tie
-use Rattle.reader.proofs.fields.read_list.Reads as reads
-use Rattle.reader.proofs.fields.read_list.Lts as lts
-use Rattle.reader.proofs.element.open_tagged.Reads as open-tagged-reads
-use Rattle.reader.proofs.fields.empty_list.Reads as empty-list-reads
-use Rattle.reader.proofs.fields.read_fields.Reads as read-fields-reads
 
--- src/fields.rt:165:11
 open-tagged-requires : tie.Need-open-tagged-requires
 open-tagged-requires c κs = search needs
 
--- src/fields.rt:166:25
 enum-known-k : tie.Need-enum-known-k
 enum-known-k c = search needs
 
--- src/fields.rt:168:19
 empty-list-requires : tie.Need-empty-list-requires
 empty-list-requires c κs = search needs
 
--- src/fields.rt:170:20
 enum-known-body : tie.Need-enum-known-body
 enum-known-body c = search needs
 
--- src/fields.rt:170:35
 read-fields-requires : tie.Need-read-fields-requires
 read-fields-requires c κs = omega (arith, tagged-inside (c .before .before .before .before .before .args .at) (c .before .before .before .before .before .args .end) _ _ _ (c .before .before .before .open-tagged .ensures .1) (c .before .body .given .1))
 
--- src/fields.rt:160:1
 returns : tie.Need-returns
 returns c = (search (list-no, list-is), search (needs, step-inside))
 
--- src/fields.rt:160:1
 returns-2 : tie.Need-returns-2
 returns-2 c = (search (list-no, list-is), search (needs, step-inside))
 

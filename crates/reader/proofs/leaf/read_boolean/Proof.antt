@@ -1,50 +1,38 @@
+-- `read_boolean` meets its contract: an element opened, and 00 or FF in it or 10. Assumes nothing.
 use native.Mathlib.Omega.{arith}
 use Rattle.reader.proofs.Leaves.{boolean-no, boolean-long, boolean-false, boolean-true, boolean-other}
 use Rattle.reader.proofs.Open.{tagged-inside}
 use borrow.Author.Needs.{needs}
 use Rattle.reader.proofs.leaf.read_boolean.Statement.{statement}
 use Rattle.reader.proofs.leaf.read_boolean.Tie as tie
-use Rattle.reader.proofs.leaf.read_boolean.Reads as reads
-use Rattle.reader.proofs.leaf.read_boolean.Lts as lts
-use Rattle.reader.proofs.element.open_tagged.Reads as open-tagged-reads
 
--- src/leaf.rt:132:11
 open-tagged-requires : tie.Need-open-tagged-requires
 open-tagged-requires c κs = search needs
 
--- src/leaf.rt:133:25
 enum-known-k : tie.Need-enum-known-k
 enum-known-k c = search needs
 
--- src/leaf.rt:134:20
 enum-known-body : tie.Need-enum-known-body
 enum-known-body c = search needs
 
--- src/leaf.rt:135:16
 sub-if1 : tie.Need-sub-if1
 sub-if1 c = tagged-inside (c .before .before .before .before .before .args .at) (c .before .before .before .before .before .args .end) _ _ _ (c .before .before .before .open-tagged .ensures .1) (c .before .body .given .1) .1 .0
 
--- src/leaf.rt:136:17
 returns : tie.Need-returns
 returns c = (search (boolean-no, boolean-long, boolean-false, boolean-true, boolean-other), tt)
 
--- src/leaf.rt:138:21
 shared-slice-read-a : tie.Need-shared-slice-read-a
 shared-slice-read-a c = omega (arith, tagged-inside (c .before .before .before .before .before .before .before .args .at) (c .before .before .before .before .before .before .before .args .end) _ _ _ (c .before .before .before .before .before .open-tagged .ensures .1) (c .before .before .before .body .given .1))
 
--- src/leaf.rt:140:17
 returns-2 : tie.Need-returns-2
 returns-2 c = (search (boolean-no, boolean-long, boolean-false, boolean-true, boolean-other), omega (arith, tagged-inside (c .before .before .before .before .before .before .before .before .args .at) (c .before .before .before .before .before .before .before .before .args .end) _ _ _ (c .before .before .before .before .before .before .open-tagged .ensures .1) (c .before .before .before .before .body .given .1)))
 
--- src/leaf.rt:143:17
 returns-3 : tie.Need-returns-3
 returns-3 c = (search (boolean-no, boolean-long, boolean-false, boolean-true, boolean-other), omega (arith, tagged-inside (c .before .before .before .before .before .before .before .before .before .args .at) (c .before .before .before .before .before .before .before .before .before .args .end) _ _ _ (c .before .before .before .before .before .before .before .open-tagged .ensures .1) (c .before .before .before .before .before .body .given .1)))
 
--- src/leaf.rt:127:1
 returns-4 : tie.Need-returns-4
 returns-4 c = (search (boolean-no, boolean-long, boolean-false, boolean-true, boolean-other), tt)
 
--- src/leaf.rt:127:1
 returns-5 : tie.Need-returns-5
 returns-5 c = (search (boolean-no, boolean-long, boolean-false, boolean-true, boolean-other), tt)
 

@@ -1,34 +1,26 @@
+-- `read_null` meets its contract: an element opened, and no content in it or 10. Assumes nothing.
 use native.Mathlib.Omega.{arith}
 use Rattle.reader.proofs.Leaves.{null-no, null-is, null-some}
 use Rattle.reader.proofs.Open.{tagged-inside}
 use borrow.Author.Needs.{needs}
 use Rattle.reader.proofs.leaf.read_null.Statement.{statement}
 use Rattle.reader.proofs.leaf.read_null.Tie as tie
-use Rattle.reader.proofs.leaf.read_null.Reads as reads
-use Rattle.reader.proofs.leaf.read_null.Lts as lts
-use Rattle.reader.proofs.element.open_tagged.Reads as open-tagged-reads
 
--- src/leaf.rt:156:11
 open-tagged-requires : tie.Need-open-tagged-requires
 open-tagged-requires c κs = search needs
 
--- src/leaf.rt:157:25
 enum-known-k : tie.Need-enum-known-k
 enum-known-k c = search needs
 
--- src/leaf.rt:158:20
 enum-known-body : tie.Need-enum-known-body
 enum-known-body c = search needs
 
--- src/leaf.rt:160:17
 returns : tie.Need-returns
 returns c = (search (null-no, null-is, null-some), omega (arith, tagged-inside (c .before .before .before .before .before .before .args .at) (c .before .before .before .before .before .before .args .end) _ _ _ (c .before .before .before .before .open-tagged .ensures .1) (c .before .before .body .given .1)))
 
--- src/leaf.rt:151:1
 returns-2 : tie.Need-returns-2
 returns-2 c = (search (null-no, null-is, null-some), tt)
 
--- src/leaf.rt:151:1
 returns-3 : tie.Need-returns-3
 returns-3 c = (search (null-no, null-is, null-some), tt)
 

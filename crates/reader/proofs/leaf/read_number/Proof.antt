@@ -1,47 +1,35 @@
+-- `read_number` meets its contract: an element opened, and its octets as a number or 10. Assumes nothing.
 use native.Mathlib.Omega.{arith}
 use Rattle.reader.proofs.Leaves.{number-no, number-wrong, number-is}
 use Rattle.reader.proofs.Open.{tagged-inside}
 use borrow.Author.Needs.{needs}
 use Rattle.reader.proofs.leaf.read_number.Statement.{statement}
 use Rattle.reader.proofs.leaf.read_number.Tie as tie
-use Rattle.reader.proofs.leaf.read_number.Reads as reads
-use Rattle.reader.proofs.leaf.read_number.Lts as lts
-use Rattle.reader.proofs.element.open_tagged.Reads as open-tagged-reads
-use Rattle.reader.proofs.leaf.value_of.Reads as value-of-reads
 
--- src/leaf.rt:101:11
 open-tagged-requires : tie.Need-open-tagged-requires
 open-tagged-requires c κs = search needs
 
--- src/leaf.rt:102:25
 enum-known-k : tie.Need-enum-known-k
 enum-known-k c = search needs
 
--- src/leaf.rt:103:20
 enum-known-body : tie.Need-enum-known-body
 enum-known-body c = search needs
 
--- src/leaf.rt:103:41
 value-of-requires : tie.Need-value-of-requires
 value-of-requires c κs = omega (arith, tagged-inside (c .before .before .before .before .before .args .at) (c .before .before .before .before .before .args .end) _ _ _ (c .before .before .before .open-tagged .ensures .1) (c .before .body .given .1))
 
--- src/leaf.rt:104:29
 enum-told : tie.Need-enum-told
 enum-told c = search needs
 
--- src/leaf.rt:105:23
 enum-known-n : tie.Need-enum-known-n
 enum-known-n c = search needs
 
--- src/leaf.rt:96:1
 returns : tie.Need-returns
 returns c = (search (number-no, number-wrong, number-is), search needs)
 
--- src/leaf.rt:96:1
 returns-2 : tie.Need-returns-2
 returns-2 c = (search (number-no, number-wrong, number-is), search needs)
 
--- src/leaf.rt:96:1
 returns-3 : tie.Need-returns-3
 returns-3 c = (search (number-no, number-wrong, number-is), omega (arith, tagged-inside (c .before .before .before .before .before .before .before .before .before .args .at) (c .before .before .before .before .before .before .before .before .before .args .end) _ _ _ (c .before .before .before .before .before .before .before .open-tagged .ensures .1) (c .before .before .before .before .before .body .given .1)))
 

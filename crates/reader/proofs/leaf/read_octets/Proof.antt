@@ -1,34 +1,26 @@
+-- `read_octets` meets its contract: an element opened, and its content as a part of the bytes. Assumes nothing.
 use native.Mathlib.Omega.{arith}
 use Rattle.reader.proofs.Leaves.{octets-no, octets-is}
 use Rattle.reader.proofs.Open.{tagged-inside}
 use borrow.Author.Needs.{needs}
 use Rattle.reader.proofs.leaf.read_octets.Statement.{statement}
 use Rattle.reader.proofs.leaf.read_octets.Tie as tie
-use Rattle.reader.proofs.leaf.read_octets.Reads as reads
-use Rattle.reader.proofs.leaf.read_octets.Lts as lts
-use Rattle.reader.proofs.element.open_tagged.Reads as open-tagged-reads
 
--- src/leaf.rt:116:11
 open-tagged-requires : tie.Need-open-tagged-requires
 open-tagged-requires c κs = search needs
 
--- src/leaf.rt:117:25
 enum-known-k : tie.Need-enum-known-k
 enum-known-k c = search needs
 
--- src/leaf.rt:118:20
 enum-known-body : tie.Need-enum-known-body
 enum-known-body c = search needs
 
--- src/leaf.rt:120:18
 sub-t10 : tie.Need-sub-t10
 sub-t10 c = tagged-inside (c .before .before .before .before .before .args .at) (c .before .before .before .before .before .args .end) _ _ _ (c .before .before .before .open-tagged .ensures .1) (c .before .body .given .1) .1 .0
 
--- src/leaf.rt:111:1
 returns : tie.Need-returns
 returns c = (search octets-no, search needs)
 
--- src/leaf.rt:111:1
 returns-2 : tie.Need-returns-2
 returns-2 c = (search octets-is, omega (arith, tagged-inside (c .before .before .before .before .before .args .at) (c .before .before .before .before .before .args .end) _ _ _ (c .before .before .before .open-tagged .ensures .1) (c .before .body .given .1)))
 

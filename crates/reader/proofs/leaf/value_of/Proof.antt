@@ -1,65 +1,48 @@
-use native.Mathlib.Omega.{arith}
+-- `value_of` meets its contract: the shortest form, the sign bit and the top, one after the other. Assumes nothing.
 use Rattle.reader.proofs.Spelled.{content-none, content-high, content-one-over, content-one, content-long, content-zero, content-more}
 use borrow.Author.Needs.{needs}
 use Rattle.reader.proofs.leaf.value_of.Statement.{statement}
 use Rattle.reader.proofs.leaf.value_of.Tie as tie
-use Rattle.reader.proofs.leaf.value_of.Reads as reads
-use Rattle.reader.proofs.leaf.value_of.Lts as lts
-use Rattle.reader.proofs.leaf.within_top.Reads as within-top-reads
 
--- src/leaf.rt:73:9
 returns : tie.Need-returns
 returns c = search content-none
 
--- src/leaf.rt:75:13
 shared-slice-read-a : tie.Need-shared-slice-read-a
 shared-slice-read-a c = search needs
 
--- src/leaf.rt:77:9
 returns-2 : tie.Need-returns-2
 returns-2 c = search (needs, content-high)
 
--- src/leaf.rt:79:16
 add-next : tie.Need-add-next
 add-next c = search needs
 
--- src/leaf.rt:81:18
 cast-if4 : tie.Need-cast-if4
 cast-if4 c = search needs
 
--- src/leaf.rt:82:13
 returns-3 : tie.Need-returns-3
 returns-3 c = search (needs, content-one-over)
 
--- src/leaf.rt:84:26
 cast-t11 : tie.Need-cast-t11
 cast-t11 c = search needs
 
--- src/leaf.rt:84:9
 returns-4 : tie.Need-returns-4
 returns-4 c = search (needs, content-one)
 
--- src/leaf.rt:86:13
 shared-slice-read-b : tie.Need-shared-slice-read-b
 shared-slice-read-b c = search needs
 
--- src/leaf.rt:89:13
 returns-5 : tie.Need-returns-5
 returns-5 c = search (needs, content-long)
 
--- src/leaf.rt:91:9
 within-top-requires : tie.Need-within-top-requires
 within-top-requires c κs = search needs
 
--- src/leaf.rt:91:9
 returns-6 : tie.Need-returns-6
 returns-6 c = search (needs, content-zero)
 
--- src/leaf.rt:93:5
 within-top-requires-2 : tie.Need-within-top-requires-2
 within-top-requires-2 c κs = search needs
 
--- src/leaf.rt:68:1
 returns-7 : tie.Need-returns-7
 returns-7 c = search (needs, content-more)
 

@@ -1,3 +1,4 @@
+-- `read_members` meets its contract: the slots up to here hold the members up to here. Assumes nothing.
 use mathlib.Core.Path.{refl}
 use denote.Ref.{now}
 use Prim.Native.Nat.{_-_}
@@ -6,10 +7,6 @@ use Rattle.reader.proofs.Members.{Gathered, gathered-none, gathered-man
 use borrow.Author.Needs.{needs}
 use Rattle.reader.proofs.set.read_members.Statement.{statement}
 use Rattle.reader.proofs.set.read_members.Tie as tie
-use Rattle.reader.proofs.set.read_members.Reads as reads
-use Rattle.reader.proofs.set.read_members.Lts as lts
-use Rattle.reader.proofs.leaf.read_number.Reads as read-number-reads
-use Rattle.reader.proofs.set.empty_set.Reads as empty-set-reads
 
 abbrev Inv-loop : tie.InvT-loop
 Inv-loop s at end set₀ place₀ low₀ n₀ set place low n = Gathered s at end (set .members) place low n
@@ -17,67 +14,51 @@ Inv-loop s at end set₀ place₀ low₀ n₀ set place low n = Gathered s at en
 abbrev μ-loop : tie.MeasureT-loop
 μ-loop s at end set₀ place₀ low₀ n₀ set place low n = end - place
 
--- src/set.rt:39:19
 empty-set-requires : tie.Need-empty-set-requires Inv-loop μ-loop
 empty-set-requires c κs = search needs
 
--- src/set.rt:43:5
 loop-holds : tie.Need-loop-holds Inv-loop μ-loop
 loop-holds c = rw (c .empty-set .ensures) (gathered-none (now (c .before .before .args .s)) (c .before .before .args .at) (c .before .before .args .end) (c .before .before .pre .1) (c .before .before .pre .0))
 
--- src/set.rt:45:13
 returns : tie.Need-returns Inv-loop μ-loop
 returns c = (search gathered-many, tt)
 
--- src/set.rt:50:15
 read-number-requires : tie.Need-read-number-requires Inv-loop μ-loop
 read-number-requires c κs = search needs
 
--- src/set.rt:51:29
 enum-known-k : tie.Need-enum-known-k Inv-loop μ-loop
 enum-known-k c = search needs
 
--- src/set.rt:52:17
 returns-2 : tie.Need-returns-2 Inv-loop μ-loop
 returns-2 c = (search gathered-no, tt)
 
--- src/set.rt:57:24
 enum-known-x : tie.Need-enum-known-x Inv-loop μ-loop
 enum-known-x c = search needs
 
--- src/set.rt:59:21
 returns-3 : tie.Need-returns-3 Inv-loop μ-loop
 returns-3 c = (search gathered-order, tt)
 
--- src/set.rt:64:34
 cast-set : tie.Need-cast-set Inv-loop μ-loop
 cast-set c = omega (arith, number-small (now (c .before .before .before .before .before .before .before .before .before .before .args .s)) (c .before .before .before .before .before .before .before .loop .place) (c .before .before .before .before .before .before .before .before .before .before .args .end) 2 0xffff_ffff _ _ _ (c .before .before .before .before .read-number .ensures .0) (c .before .before .x .given .1))
 
--- src/set.rt:64:17
 mul-set : tie.Need-mul-set Inv-loop μ-loop
 mul-set c = search needs
 
--- src/set.rt:64:17
 element-write-set : tie.Need-element-write-set Inv-loop μ-loop
 element-write-set c = search needs
 
--- src/set.rt:65:23
 add-low : tie.Need-add-low Inv-loop μ-loop
 add-low c = omega (arith, number-small (now (c .before .before .before .before .before .before .before .before .before .before .args .s)) (c .before .before .before .before .before .before .before .loop .place) (c .before .before .before .before .before .before .before .before .before .before .args .end) 2 0xffff_ffff _ _ _ (c .before .before .before .before .read-number .ensures .0) (c .before .before .x .given .1))
 
--- src/set.rt:66:17
 add-n : tie.Need-add-n Inv-loop μ-loop
 add-n c = search needs
 
--- src/set.rt:43:5
 loop-less : tie.Need-loop-less Inv-loop μ-loop
 loop-less c = omega (arith, number-inside (c .before .before .before .before .before .before .before .loop .place) (c .before .before .before .before .before .before .before .before .before .before .args .end) _ _ _ (c .before .before .before .before .read-number .ensures .1) (c .before .before .x .given .1), c .before .before .before .before .before .before .loop-test .taken)
 
--- src/set.rt:43:5
 loop-again : tie.Need-loop-again Inv-loop μ-loop
 loop-again c = search gathered-more
 
--- src/set.rt:35:1
 returns-4 : tie.Need-returns-4 Inv-loop μ-loop
 returns-4 c = (search gathered-all, refl)
 
