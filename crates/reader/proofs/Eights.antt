@@ -32,22 +32,22 @@ refusal-is k p r e = rw e refl
 
 module _ (s : List ℕ) (at end : ℕ) (h : Head) (e : ofHead s end h ≡ readHead at (slice at end s)) where
   pub eight-no : (k p : ℕ) (r : EightRead) → h ≡ Head.Refused k p → r ≡ refusedEight k p → ofEight s end (r .step) (r .said) ≡ readContent at (slice at end s)
-  unfolding readContent listsAfter bind
+  unfolding readContent bind
   eight-no k p r w q = rw (q, eight-split, ← e, w) refl
 
   module _ (a m : Security) (c u : Part) (x : ℕ) (w : h ≡ Head.Is a m c u x) (t : Step) (l : FieldList) (e₁ : ofList s end t l ≡ readList (a .version) x (slice x end s)) where
     pub eight-no-software : (k p : ℕ) (r : EightRead) → t ≡ Step.Refused k p → r ≡ refusedEight k p → ofEight s end (r .step) (r .said) ≡ readContent at (slice at end s)
-    unfolding readContent listsAfter bind
+    unfolding readContent bind
     eight-no-software k p r z q = rw (q, eight-split, ← e, w, ← e₁, z) refl
 
     module _ (y : ℕ) (z : t ≡ Step.Past y) (t₂ : Step) (l₂ : FieldList) (e₂ : ofList s end t₂ l₂ ≡ readList (a .version) y (slice y end s)) where
       pub eight-no-hardware : (k p : ℕ) (r : EightRead) → t₂ ≡ Step.Refused k p → r ≡ refusedEight k p → ofEight s end (r .step) (r .said) ≡ readContent at (slice at end s)
-      unfolding readContent listsAfter bind
+      unfolding readContent bind
       eight-no-hardware k p r z₂ q = rw (q, eight-split, ← e, w, ← e₁, z, ← e₂, z₂) refl
 
       pub eight-is : (b : ℕ) → t₂ ≡ Step.Past b
           → got (taken (contentOf (record { attestation = a; keymint = m; challenge = c; unique = u; software = l; hardware = l₂ }) s) b (slice b end s)) ≡ readContent at (slice at end s)
-      unfolding readContent listsAfter bind
+      unfolding readContent bind
       eight-is b z₂ = rw (eight-split, ← e, w, ← e₁, z, ← e₂, z₂) refl
 
 -- what the arms of the matches know of places

@@ -2,13 +2,13 @@
 use mathlib.Core.Path.{_≡_, refl, sym, ap, subst, _∙_}
 use mathlib.Core.Bool.{Bool, true, false, not}
 use mathlib.Core.Option.{Option, none, some}
-use mathlib.Core.List.{List, []}
+use mathlib.Core.List.{List}
 use Prim.Native.Nat.{ℕ, _+_, _<_, _≤_}
 use native.Mathlib.Omega.{arith}
 use lib.Dec.{eqb}
 use lib.ListN.{length}
-use lib.Seq.{slice, slice-empty, length-slice}
-use borrow.Author.Tests.{lt-ltb, le-ltb, ne-eqb, not-true, not-false}
+use lib.Seq.{slice}
+use borrow.Author.Tests.{lt-ltb, le-ltb, not-true, not-false}
 use Rattle.answer.specs.Answer.{Answer, got, refused, guard, bind, pick}
 use Rattle.answer.proofs.Logic.{by-le}
 use Rattle.codec.specs.Octets.{Taken, taken}
@@ -24,23 +24,8 @@ use Rattle.reader.specs.declared.element.Tagged.{Tagged}
 use Rattle.reader.specs.declared.leaf.Number.{Number}
 use Rattle.reader.specs.declared.leaf.Octets.{Octets}
 use Rattle.reader.specs.declared.root.Root.{Root}
+use Rattle.reader.proofs.Exact.{exactly-extra, exactly-is}
 use Rattle.reader.proofs.Open.{leaf-no, leaf-is, tagged-inside}
-
--- ---- exactly one
-
-module _ {A : Type 0} (rd : ℕ → List ℕ → Answer (Taken A)) (p : ℕ) where
-  pub exactly-no : (bs : List ℕ) (k q : ℕ) → rd p bs ≡ refused k q → exactly 9 rd p bs ≡ refused k q
-  unfolding exactly bind
-  exactly-no bs k q e = rw e refl
-
-  module _ (s : List ℕ) (end : ℕ) (a : A) (x : ℕ) (e : rd p (slice p end s) ≡ got (taken a x (slice x end s))) where
-    pub exactly-extra : end ≤ length s → x < end → exactly 9 rd p (slice p end s) ≡ refused 9 x
-    unfolding exactly bind guard
-    exactly-extra fit h = rw (e, ne-eqb (length (slice x end s)) 0 (λ z. omega (arith, length-slice x end s fit))) refl
-
-    pub exactly-is : x ≡ end → exactly 9 rd p (slice p end s) ≡ got a
-    unfolding exactly bind guard
-    exactly-is h = let z : slice x end s ≡ [] = rw h (slice-empty end s) in rw (e, z) refl
 
 -- the first of two, and then exactly the second; f puts them with what was read before
 module _ {A B C : Type 0} (rd : ℕ → List ℕ → Answer (Taken A)) (rd′ : A → ℕ → List ℕ → Answer (Taken B)) (f : A × B → C) where
