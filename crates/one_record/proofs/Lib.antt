@@ -1,0 +1,2 @@
+pub mod ContentOctets
+pub mod OneRecord
