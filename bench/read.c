@@ -1,4 +1,5 @@
-// Time of a whole read of each file named: ns a read, a byte and an element, with the first pass alone beside it.
+// Time of reading each file named, for its count of elements: ns a read and a byte, with the first pass alone beside it.
+// The record is not handed out, so the compiler may drop its last copy: see docs/FIGURES.md.
 // Built and run by bench/read; the least of several rounds is printed, which other work on the machine disturbs least.
 #include <stdint.h>
 #include <stdio.h>
