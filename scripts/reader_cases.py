@@ -1,6 +1,6 @@
 #!/usr/bin/env python3
 """Writes the input and the expected output of the program reader_cases, crates/reader_cases/stdin and stdout, and the
-expected output of the program table_cases, crates/table_cases/stdout.
+expected output of the program table_cases, crates/table_cases/stdout; and the large sample, samples/every_field.der.
 
 The cases are the sample cases in cases/reader.jsonl and those below. Each states its answer beside its bytes, from
 document 01 and the schemas printed in source document 001, not from a run. With --check nothing is written, and the
@@ -98,9 +98,14 @@ def sample(version, number):
     return integer(number * 3), str(number * 3)
 
 
-def extension(version, software=b"", hardware=b"", level=1):
-    return sequence(integer(version), enumerated(level), integer(version + 1), enumerated(level), octets(b"\x01\x02"),
+def extension(version, software=b"", hardware=b"", level=1, challenge=b"\x01\x02"):
+    return sequence(integer(version), enumerated(level), integer(version + 1), enumerated(level), octets(challenge),
                     octets(b""), sequence(software), sequence(hardware))
+
+
+def every_field(version):
+    """One list with each field that the version's schema prints."""
+    return b"".join(explicit(n, sample(version, n)[0]) for n in FIELDS[version])
 
 
 def head(version, level=1):
@@ -146,10 +151,9 @@ with open(os.path.join(ROOT, "cases", "reader.jsonl"), encoding="utf-8") as line
 
 # ---- every field that a version's schema prints, in both lists
 for version, numbers in FIELDS.items():
-    values = [(n,) + sample(version, n) for n in numbers]
-    held = b"".join(explicit(n, content) for n, content, _ in values)
+    held = every_field(version)
     accepted("all fields of version %d" % version, version, extension(version, held, held),
-             ["%s %d %s\n" % (where, n, text) for where in ("software", "hardware") for n, _, text in values])
+             ["%s %d %s\n" % (where, n, sample(version, n)[1]) for where in ("software", "hardware") for n in numbers])
 
 # ---- each number alone: held where the version's schema prints it, 11 at the field where not
 for version, numbers in FIELDS.items():
@@ -196,14 +200,16 @@ case("locked is 01", extension(3, explicit(704, sequence(octets(b""), element(b"
 
 def main():
     table = "".join("%d: %s\n" % (version, " ".join(map(str, numbers))) for version, numbers in FIELDS.items())
+    large = extension(300, every_field(300), every_field(300), challenge=bytes(range(32)))
     good = True
-    for name, data in (("reader_cases/stdin", bytes(stdin)), ("reader_cases/stdout", "".join(stdout).encode()),
-                       ("table_cases/stdout", table.encode())):
-        path = os.path.join(ROOT, "crates", name)
+    for name, data in (("crates/reader_cases/stdin", bytes(stdin)),
+                       ("crates/reader_cases/stdout", "".join(stdout).encode()),
+                       ("crates/table_cases/stdout", table.encode()), ("samples/every_field.der", large)):
+        path = os.path.join(ROOT, name)
         if "--check" in sys.argv[1:]:
             with open(path, "rb") as kept:
                 if kept.read() != data:
-                    print("crates/%s is not what scripts/reader_cases.py writes" % name)
+                    print("%s is not what scripts/reader_cases.py writes" % name)
                     good = False
         else:
             with open(path, "wb") as out:

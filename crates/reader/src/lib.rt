@@ -28,8 +28,8 @@ pub enum Outcome {
     Refused(u8, usize),
 }
 
-// What a read answers. Where it is accepted the record's octet parts lie in the bytes that were read; where it is refused
-// the record says nothing.
+// What a read answers. Where it is accepted the record, its octet parts taken from the bytes that were read, says what they
+// say; where it is refused the record says nothing.
 pub struct Reading {
     pub outcome: Outcome,
     pub said: Record,
