@@ -56,7 +56,7 @@ fn root_shaped(version: u32, t: RootOfTrust) -> bool
 }
 
 // The set of a row, by its number.
-fn set_at(l: FieldList, number: usize) -> NumberSet
+pub fn set_at(l: FieldList, number: usize) -> NumberSet
     ensures { λ g. ⌜ g ≡ setAt l number ⌝ }
 {
     if number == 1 {
