@@ -22,9 +22,10 @@ use Rattle.records.specs.Content.{octetsAt, membersOf}
 use Rattle.records.specs.declared.NumberSet.{NumberSet}
 use Rattle.records.specs.declared.RootOfTrust.{RootOfTrust}
 use Rattle.reader.specs.Leaf.{readNumber, ofNumber, ofNull, ofOctets, NumberInside, OctetsInside}
-use Rattle.reader.specs.Set.{emptySet, ofSet, StepInside}
+use Rattle.reader.specs.Set.{ofSet, StepInside}
+use Rattle.reader.specs.Empty.{emptySet, emptyRoot}
 use Rattle.reader.specs.Root.{Trust, trustOf, ofRoot, RootInside}
-use Rattle.reader.specs.Content.{ofStepped, endStep, emptyRoot, plainContent, contentValue}
+use Rattle.reader.specs.Content.{ofStepped, endStep, plainContent, contentValue}
 use Rattle.reader.specs.declared.leaf.Number.{Number}
 use Rattle.reader.specs.declared.leaf.Octets.{Octets}
 use Rattle.reader.specs.declared.root.Root.{Root}

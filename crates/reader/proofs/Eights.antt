@@ -16,8 +16,9 @@ use Rattle.records.specs.declared.Part.{Part}
 use Rattle.records.specs.declared.FieldList.{FieldList}
 use Rattle.reader.specs.Set.{StepInside}
 use Rattle.reader.specs.Head.{readHead, ofHead, HeadInside, listsAfter}
-use Rattle.reader.specs.Lists.{emptyList, ofList}
-use Rattle.reader.specs.Reading.{emptyRecord, refusedEight, readContent, ofEight}
+use Rattle.reader.specs.Lists.{ofList}
+use Rattle.reader.specs.Empty.{emptyList, emptyRecord}
+use Rattle.reader.specs.Eight.{refusedEight, readContent, ofEight}
 use Rattle.reader.specs.declared.head.Head.{Head}
 use Rattle.reader.specs.declared.set.Step.{Step}
 use Rattle.reader.specs.declared.eight.EightRead.{EightRead}

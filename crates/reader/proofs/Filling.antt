@@ -25,13 +25,16 @@ use Rattle.reader.specs.Content.{ofStepped, contentValue}
 use Rattle.reader.specs.Fields.{FieldAt, FieldOpened}
 use Rattle.reader.specs.Element.{openedAs, ofTagged}
 use Rattle.reader.specs.Set.{StepAt}
-use Rattle.reader.specs.Lists.{emptyList, withField, fieldsFrom, ofFields, ofList}
+use Rattle.reader.specs.Lists.{withField, fieldsFrom, ofFields, ofList}
+use Rattle.reader.specs.Empty.{emptyList}
+use Rattle.reader.specs.Inside.{ContentIn, ListIn}
 use Rattle.reader.specs.declared.element.Tagged.{Tagged}
 use Rattle.reader.proofs.Open.{leaf-no, leaf-is}
 use Rattle.reader.specs.declared.set.Step.{Step}
 use Rattle.reader.specs.declared.fields.FieldHead.{FieldHead}
 use Rattle.reader.specs.declared.content.ContentRead.{ContentRead}
 use Rattle.reader.proofs.Chains.{Ahead, ahead-start, ahead-refused, ahead-more, ahead-end}
+use Rattle.reader.proofs.Bounds.{empty-in, stored-in}
 use Rattle.reader.proofs.Lists.{Sized, stored-same, stored-other, stored-sized, upTo-one, empty-none, empty-fields, empty-sized}
 
 pub record Filled (s : List ℕ) (at end v : ℕ) (l : FieldList) (place low : ℕ) : Type 0 where
@@ -40,6 +43,7 @@ pub record Filled (s : List ℕ) (at end v : ℕ) (l : FieldList) (place low : �
   pub sized : Sized l
   pub absent : (k : ℕ) → k < 42 → low ≤ rowAt k .number → fieldAt l s k ≡ []
   pub ahead : Ahead (readField v) afterField s end (fieldsFrom v at (slice at end s)) (fieldsOf l s) low place
+  pub bounds : ListIn (length s) l
 
 number-small : (k : ℕ) → k < 42 → rowAt k .number ≤ 723
 unfolding rows
@@ -60,6 +64,7 @@ module _ (s : List ℕ) (at end v : ℕ) (fit : end ≤ length s) where
     sized = empty-sized;
     absent = λ k b p. empty-none s k b;
     ahead = rw (empty-fields s) (ahead-start (readField v) afterField s end fit 0 at);
+    bounds = empty-in (length s);
   }
 
   module _ (l : FieldList) (place low : ℕ) (g : Filled s at end v l place low) (h : place < end) where
@@ -70,7 +75,7 @@ module _ (s : List ℕ) (at end v : ℕ) (fit : end ≤ length s) where
     filled-no r k q o w = refuses k q (subst (FieldOpened s place end v low) w o)
 
     module _ (r : FieldHead) (row n b x : ℕ) (o : FieldOpened s place end v low r) (w : r ≡ FieldHead.Is row n b x) (i : code.Row) (qi : ofRow i ≡ rowAt row) (hash : Bool) (qh : hash ≡ leb 3 v) (c : ContentRead)
-        (e : (v p : ℕ) → hash ≡ table.hashed v → ofStepped (c .step) (contentValue s (ofKind (i .kind)) c) ≡ contentOf v (ofKind (i .kind)) p b (slice b x s)) where
+        (e : (v p : ℕ) → hash ≡ table.hashed v → ofStepped (c .step) (contentValue s (ofKind (i .kind)) c) ≡ contentOf v (ofKind (i .kind)) p b (slice b x s)) (d : ContentIn (ofKind (i .kind)) (length s) c) where
       f : FieldAt s place end v low row n b x
       f = subst (FieldOpened s place end v low) w o
 
@@ -111,6 +116,7 @@ module _ (s : List ℕ) (at end v : ℕ) (fit : end ≤ length s) where
             sized = stored-sized l s row c (g .sized) t;
             absent = λ k b p. stored-other l s row c (g .sized) t k b (λ q. absurd (omega (arith, m, ap (λ (j : ℕ). rowAt j .number) q))) ∙ g .absent k b (omega (arith, f .above));
             ahead = rw gone (ahead-more (readField v) afterField s end fit _ (fieldsOf l s) low place (g .ahead) x (field n (contentValue s (rowAt row .kind) c)) h (omega (arith, f .body, f .stop)) (one y z));
+            bounds = stored-in (length s) l row c (g .sized) t (g .bounds) (subst (λ (k : Kind). ContentIn k (length s) c) kind d);
           }
 
       pub filled-purpose : (y : ℕ) → c .step ≡ Step.Past y → row ≡ 0 → Filled s at end v (record { present = set (l .present) row true; values = set (l .values) row (c .value); sizes = set (l .sizes) row (c .size); purpose = c .set; digest = l .digest; padding = l .padding; mgf = l .mgf; root = l .root }) x (n + 1)
@@ -148,6 +154,9 @@ module _ (s : List ℕ) (at end v : ℕ) (fit : end ≤ length s) where
       filled-plain y z a₀ a₃ a₄ a₇ a₂₆ =
           let e : _≡_ {A = FieldList} (record { present = set (l .present) row true; values = set (l .values) row (c .value); sizes = set (l .sizes) row (c .size); purpose = l .purpose; digest = l .digest; padding = l .padding; mgf = l .mgf; root = l .root }) (withField l row c) = rw (ne-eqb row 0 a₀, ne-eqb row 3 a₃, ne-eqb row 4 a₄, ne-eqb row 7 a₇, ne-eqb row 26 a₂₆) refl in
           subst (λ (m : FieldList). Filled s at end v m x (n + 1)) (sym e) (filled-more y z)
+
+  pub filled-in : (l : FieldList) (place low : ℕ) → Filled s at end v l place low → ListIn (length s) l
+  filled-in l place low g = g .bounds
 
   pub filled-all : (l : FieldList) (place low : ℕ) → Filled s at end v l place low → end ≤ place → got (fieldsOf l s) ≡ fieldsFrom v at (slice at end s)
   filled-all l place low g h = ahead-end (readField v) afterField s end fit _ (fieldsOf l s) low place (g .ahead) (g .to) h

@@ -7,6 +7,7 @@ pub mod Exact
 pub mod Contents
 pub mod FieldHeads
 pub mod Lists
+pub mod Bounds
 pub mod Filling
 pub mod Roots
 pub mod Eights

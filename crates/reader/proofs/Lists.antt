@@ -20,9 +20,9 @@ use Rattle.records.specs.Content.{octetsAt, membersOf, rootOf, setAt, valueAt, 
 use Rattle.records.specs.declared.FieldList.{FieldList}
 use Rattle.records.specs.declared.NumberSet.{NumberSet}
 use Rattle.records.specs.declared.RootOfTrust.{RootOfTrust}
-use Rattle.reader.specs.Set.{emptySet}
-use Rattle.reader.specs.Content.{contentValue, emptyRoot}
-use Rattle.reader.specs.Lists.{emptyList, withField}
+use Rattle.reader.specs.Empty.{emptySet, emptyRoot, emptyList}
+use Rattle.reader.specs.Content.{contentValue}
+use Rattle.reader.specs.Lists.{withField}
 use Rattle.reader.specs.declared.content.ContentRead.{ContentRead}
 
 -- the arrays of a list have their lengths

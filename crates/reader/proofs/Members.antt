@@ -19,6 +19,7 @@ use Rattle.schema.specs.Decode.{readInteger, readMember, readSet}
 use Rattle.reader.specs.Leaf.{readNumber, ofNumber, NumberInside}
 use Rattle.reader.specs.Element.{openedAs, ofTagged, TaggedInside}
 use Rattle.reader.specs.Set.{membersFrom, ofMembers, ofSet, StepAt, StepInside}
+use Rattle.records.specs.Slots.{SetInSlots}
 use Rattle.records.specs.declared.NumberSet.{NumberSet}
 use Rattle.reader.specs.declared.element.Tagged.{Tagged}
 use Rattle.reader.specs.declared.set.Step.{Step}
@@ -114,6 +115,9 @@ module _ (s : List ℕ) (at end : ℕ) (fit : end ≤ length s) where
             slots = length-set members n v ∙ g .slots;
             ahead = rw m (ahead-more readMember afterMember s end fit _ (take n members) (n, low) place (g .ahead) x v h (j .0) (member-is s end place n low r l e v x w o));
           }
+
+    pub gathered-slots : SetInSlots (record { members = members; count = n })
+    gathered-slots = (g .few, g .slots)
 
     pub gathered-all : end ≤ place → got (take n members) ≡ membersFrom at (slice at end s)
     gathered-all h = ahead-end readMember afterMember s end fit _ (take n members) (n, low) place (g .ahead) (g .to) h

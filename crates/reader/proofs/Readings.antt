@@ -6,7 +6,9 @@ use Prim.Native.Nat.{ℕ, _-_, _<_, _≤_}
 use native.Mathlib.Omega.{arith}
 use native.Mathlib.Nat.{le-refl}
 use lib.Dec.{eqb}
-use lib.ListN.{length}
+use mir.Val.{Fits}
+use mir.Syntax.{w8}
+use lib.ListN.{length, getD}
 use lib.Seq.{slice, length-slice, take-length}
 use borrow.Author.Tests.{eq-eqb, ne-eqb}
 use Rattle.answer.specs.Answer.{Answer, got, refused, guard, bind}
@@ -24,12 +26,16 @@ use Rattle.der.specs.declared.walk.Limits.{Limits}
 use Rattle.der.specs.declared.walk.Walked.{Walked}
 use Rattle.reader.specs.Element.{openedAs, ofTagged, TaggedInside}
 use Rattle.reader.specs.Set.{StepInside}
-use Rattle.reader.specs.Reading.{emptyRecord, readContent, ofEight, refusedReading, readWith, ofReading, RefusedEmpty}
+use Rattle.reader.specs.Reading.{ofReading, RefusedEmpty, AcceptedSound}
+use Rattle.reader.specs.Empty.{emptyRecord}
+use Rattle.reader.specs.Eight.{readContent, ofEight, refusedReading, readWith}
+use Rattle.reader.specs.Inside.{RecordIn}
 use Rattle.reader.specs.declared.element.Tagged.{Tagged}
 use Rattle.reader.specs.declared.set.Step.{Step}
 use Rattle.reader.specs.declared.Outcome.{Outcome}
 use Rattle.reader.specs.declared.Reading.{Reading}
 use Rattle.reader.proofs.Open.{tagged-open, afterTagged, leaf-no, leaf-is, tagged-inside}
+use Rattle.reader.proofs.Bounds.{accepted-sound}
 use Rattle.reader.proofs.Exact.{exact-no, exact-extra, exact-whole}
 
 pub refusal-said : (k p : ℕ) (r : Record) → r ≡ emptyRecord → _≡_ {A = Reading} (record { outcome = Outcome.Refused k p; said = r }) (refusedReading k p)
@@ -151,3 +157,6 @@ module _ (s : List ℕ) (limits : Limits) (q : limits ≡ extensionLimits) (r : 
   pub walk-is : (n : ℕ) (o : Outcome) (g : Record) → r ≡ Walked.Accepted n → ofReading s o g ≡ readWith n s → ofReading s o g ≡ read s
   unfolding read
   walk-is n o g w u = u ∙ yes′ n (firstPass 8192 8 512 s) (rw w at first)
+
+  pub walk-sound : ((k : ℕ) → Fits w8 (getD s k 0)) → (n : ℕ) (o : Outcome) (g : Record) → r ≡ Walked.Accepted n → ofReading s o g ≡ readWith n s → RecordIn (length s) g → AcceptedSound (length s) o g
+  walk-sound f n o g w u i = accepted-sound s f o g i (walk-is n o g w u)

@@ -35,13 +35,14 @@ bigEndian-snoc (x ∷ xs) y =
     let e : 8 * suc (length xs) ≡ 8 * length xs + 8 = omega arith in
     rw (m, e, pow-add, bigEndian-snoc xs y) (omega (arith, mul-assoc x (2 ^ (8 * length xs)) 256))
 
+-- the octets of a slice are octets
+pub octets-all : (s : List ℕ) → ((k : ℕ) → Fits w8 (getD s k 0)) → Octets s
+octets-all [] f = tt
+octets-all (x ∷ xs) f = (f 0 .fits, octets-all xs (λ k. f (suc k)))
+
 pub octets-slice : (s : List ℕ) → ((k : ℕ) → Fits w8 (getD s k 0)) → (a e : ℕ) → Octets (slice a e s)
 octets-slice s f a e = octets-drop a (take e s) (octets-take e s (octets-all s f))
   where
-    octets-all : (s : List ℕ) → ((k : ℕ) → Fits w8 (getD s k 0)) → Octets s
-    octets-all [] f = tt
-    octets-all (x ∷ xs) f = (f 0 .fits, octets-all xs (λ k. f (suc k)))
-
     octets-take : (n : ℕ) (s : List ℕ) → Octets s → Octets (take n s)
     octets-take zero s o = tt
     octets-take (suc n) [] o = tt

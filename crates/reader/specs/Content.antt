@@ -8,7 +8,7 @@ use Rattle.schema.specs.Table.{Kind, set, number32, number64, null, octets, roo
 use Rattle.schema.specs.Content.{Value, num, nul, oct, nums, trust}
 use Rattle.records.specs.Content.{octetsAt, membersOf, rootOf}
 use Rattle.records.specs.declared.RootOfTrust.{RootOfTrust}
-use Rattle.reader.specs.Set.{emptySet}
+use Rattle.reader.specs.Empty.{emptySet, emptyRoot}
 use Rattle.reader.specs.declared.set.Step.{Step}
 use Rattle.reader.specs.declared.content.ContentRead.{ContentRead}
 
@@ -20,9 +20,6 @@ ofStepped (Step.Refused k p) a = refused k p
 -- past, where nothing follows; else an extra element there
 abbrev pub endStep : ℕ → ℕ → Step
 endStep next end = pick (eqb next end) (Step.Past next) (Step.Refused 9 next)
-
-abbrev pub emptyRoot : RootOfTrust
-emptyRoot = record { key = record { start = 0; len = 0 }; locked = false; state = 0; hashed = false; hash = record { start = 0; len = 0 } }
 
 abbrev pub plainContent : Step → ℕ → ℕ → ContentRead
 plainContent t v z = record { step = t; value = v; size = z; set = emptySet; root = emptyRoot }

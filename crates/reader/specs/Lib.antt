@@ -1,3 +1,4 @@
+pub mod Empty
 pub mod Element
 pub mod Leaf
 pub mod Set
@@ -6,4 +7,6 @@ pub mod Fields
 pub mod Lists
 pub mod Root
 pub mod Head
+pub mod Eight
 pub mod Reading
+pub mod Inside

@@ -12,22 +12,9 @@ use Rattle.schema.specs.Content.{Field, afterField}
 use Rattle.schema.specs.Decode.{readField}
 use Rattle.records.specs.Content.{fieldsOf}
 use Rattle.records.specs.declared.FieldList.{FieldList}
-use Rattle.reader.specs.Set.{emptySet}
-use Rattle.reader.specs.Content.{emptyRoot}
+use Rattle.reader.specs.Empty.{emptySet, emptyRoot}
 use Rattle.reader.specs.declared.set.Step.{Step}
 use Rattle.reader.specs.declared.content.ContentRead.{ContentRead}
-
-abbrev pub emptyList : FieldList
-emptyList = record {
-  present = replicate 42 false;
-  values = replicate 42 0;
-  sizes = replicate 42 0;
-  purpose = emptySet;
-  digest = emptySet;
-  padding = emptySet;
-  mgf = emptySet;
-  root = emptyRoot;
-}
 
 -- the list with row present, its number or part stored; a set and 704 in their own place
 abbrev pub withField : FieldList → ℕ → ContentRead → FieldList

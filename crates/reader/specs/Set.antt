@@ -13,9 +13,6 @@ use Rattle.records.specs.Content.{membersOf}
 use Rattle.records.specs.declared.NumberSet.{NumberSet}
 use Rattle.reader.specs.declared.set.Step.{Step}
 
-abbrev pub emptySet : NumberSet
-emptySet = record { members = replicate 16 0; count = 0 }
-
 unfoldable pub membersFrom : ℕ → List ℕ → Answer (List ℕ)
 membersFrom p bs = chain readMember afterMember (0, 0) p bs
 

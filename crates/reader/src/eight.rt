@@ -12,7 +12,9 @@ ghost use Prim.Native.Nat.{_≤_};
 ghost use lib.ListN.{length};
 ghost use lib.Seq.{slice};
 ghost use Rattle.reader.specs.Set.{StepInside};
-ghost use Rattle.reader.specs.Reading.{emptyRecord, refusedEight, readContent, ofEight};
+ghost use Rattle.reader.specs.Empty.{emptyRecord};
+ghost use Rattle.reader.specs.Eight.{refusedEight, readContent, ofEight};
+ghost use Rattle.reader.specs.Inside.{RecordIn};
 
 // The eight, and the next place; where they are refused, a record of nothing.
 pub(crate) struct EightRead {
@@ -54,6 +56,7 @@ pub(crate) fn read_eight(s: &[u8], at: usize, end: usize) -> EightRead
     requires { ⌜ end ≤ length (now s) ⌝ }
     ensures is { λ r. ⌜ ofEight (now (s .entry)) end (r .step) (r .said) ≡ readContent at (slice at end (now (s .entry))) ⌝ }
     ensures inside { λ r. ⌜ StepInside at end (r .step) ⌝ }
+    ensures bounds { λ r. ⌜ RecordIn (length (now (s .entry))) (r .said) ⌝ }
 {
     match read_head(s, at, end) {
         Head::Refused(k, place) => refused_eight(k, place),

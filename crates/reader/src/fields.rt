@@ -21,7 +21,9 @@ ghost use lib.Seq.{slice};
 ghost use Rattle.schema.specs.Decode.{readList};
 ghost use Rattle.reader.specs.Set.{StepAt, StepInside};
 ghost use Rattle.reader.specs.Fields.{FieldOpened};
-ghost use Rattle.reader.specs.Lists.{emptyList, fieldsFrom, ofFields, ofList};
+ghost use Rattle.reader.specs.Lists.{fieldsFrom, ofFields, ofList};
+ghost use Rattle.reader.specs.Empty.{emptyList};
+ghost use Rattle.reader.specs.Inside.{ListIn};
 
 // A field: its row and number, and its content from body to stop; or a refusal with its place.
 pub(crate) enum FieldHead {
@@ -97,6 +99,7 @@ fn read_fields(s: &[u8], at: usize, end: usize, version: u32) -> ListRead
     requires { ⌜ (at ≤ end) × (end ≤ length (now s)) ⌝ }
     ensures is { λ r. ⌜ ofFields (now (s .entry)) (r .step) (r .list) ≡ fieldsFrom version at (slice at end (now (s .entry))) ⌝ }
     ensures inside { λ r. ⌜ StepAt end (r .step) ⌝ }
+    ensures bounds { λ r. ⌜ ListIn (length (now (s .entry))) (r .list) ⌝ }
 {
     let hashed = 3 <= version;
     let mut list = empty_list();
@@ -161,6 +164,7 @@ pub(crate) fn read_list(s: &[u8], at: usize, end: usize, version: u32) -> ListRe
     requires { ⌜ end ≤ length (now s) ⌝ }
     ensures is { λ r. ⌜ ofList (now (s .entry)) end (r .step) (r .list) ≡ readList version at (slice at end (now (s .entry))) ⌝ }
     ensures inside { λ r. ⌜ StepInside at end (r .step) ⌝ }
+    ensures bounds { λ r. ⌜ ListIn (length (now (s .entry))) (r .list) ⌝ }
 {
     match open_tagged(s, at, end, 1, 16) {
         Tagged::Refused(k, place) => ListRead {

@@ -19,8 +19,11 @@ use der::walk::Limits;
 use der::walk::Walked;
 use records::Record;
 ghost use mathlib.Core.Path.{_≡_};
+ghost use lib.ListN.{length};
 ghost use Rattle.schema.specs.Decode as schema;
-ghost use Rattle.reader.specs.Reading.{refusedReading, readWith, ofReading, RefusedEmpty};
+ghost use Rattle.reader.specs.Reading.{ofReading, RefusedEmpty, AcceptedSound};
+ghost use Rattle.reader.specs.Eight.{refusedReading, readWith};
+ghost use Rattle.reader.specs.Inside.{RecordIn};
 
 // Accepted, with the count of elements; or a refusal with its place.
 pub enum Outcome {
@@ -48,6 +51,7 @@ fn refused(number: u8, place: usize) -> Reading
 fn read_description(s: &[u8], count: usize) -> Reading
     ensures is { λ r. ⌜ ofReading (now (s .entry)) (r .outcome) (r .said) ≡ readWith count (now (s .entry)) ⌝ }
     ensures empty { λ r. ⌜ RefusedEmpty (r .outcome) (r .said) ⌝ }
+    ensures bounds { λ r. ⌜ RecordIn (length (now (s .entry))) (r .said) ⌝ }
 {
     let end = s.len();
     match open_tagged(s, 0, end, 1, 16) {
@@ -79,6 +83,7 @@ fn read_description(s: &[u8], count: usize) -> Reading
 pub fn read(s: &[u8]) -> Reading
     ensures is { λ r. ⌜ ofReading (now (s .entry)) (r .outcome) (r .said) ≡ schema.read (now (s .entry)) ⌝ }
     ensures empty { λ r. ⌜ RefusedEmpty (r .outcome) (r .said) ⌝ }
+    ensures sound { λ r. ⌜ AcceptedSound (length (now (s .entry))) (r .outcome) (r .said) ⌝ }
 {
     match der::walk::walk(s, Limits::extension()) {
         Walked::Refused(k, place) => refused(k, place),

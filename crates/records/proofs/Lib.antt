@@ -5,4 +5,5 @@ pub mod Asking
 pub mod OctetFields
 pub mod Shapes
 pub mod ShapedContent
+pub mod ContentShaped
 pub mod Equal

@@ -1,5 +1,6 @@
 -- `read_content` meets its contract: the content of each of the six kinds. Assumes nothing.
 use Rattle.reader.proofs.Contents.{as-number32, as-number64, as-null, as-octets, as-set, as-root}
+use Rattle.reader.proofs.Bounds.{in-number32, in-number64, in-null, in-octets, in-set, in-root}
 use borrow.Author.Needs.{needs}
 use Rattle.reader.proofs.content.read_content.Statement.{statement}
 use Rattle.reader.proofs.content.read_content.Tie as tie
@@ -41,22 +42,22 @@ root-content-requires : tie.Need-root-content-requires
 root-content-requires c κs = search needs
 
 returns : tie.Need-returns
-returns c = search (as-number32, as-number64, as-null, as-octets, as-set, as-root)
+returns c = (search (as-number32, as-number64, as-null, as-octets, as-set, as-root), search (in-number32, in-number64, in-null, in-octets, in-set, in-root))
 
 returns-2 : tie.Need-returns-2
-returns-2 c = search (as-number32, as-number64, as-null, as-octets, as-set, as-root)
+returns-2 c = (search (as-number32, as-number64, as-null, as-octets, as-set, as-root), search (in-number32, in-number64, in-null, in-octets, in-set, in-root))
 
 returns-3 : tie.Need-returns-3
-returns-3 c = search (as-number32, as-number64, as-null, as-octets, as-set, as-root)
+returns-3 c = (search (as-number32, as-number64, as-null, as-octets, as-set, as-root), search (in-number32, in-number64, in-null, in-octets, in-set, in-root))
 
 returns-4 : tie.Need-returns-4
-returns-4 c = search (as-number32, as-number64, as-null, as-octets, as-set, as-root)
+returns-4 c = (search (as-number32, as-number64, as-null, as-octets, as-set, as-root), search (in-number32, in-number64, in-null, in-octets, in-set, in-root))
 
 returns-5 : tie.Need-returns-5
-returns-5 c = search (as-number32, as-number64, as-null, as-octets, as-set, as-root)
+returns-5 c = (search (as-number32, as-number64, as-null, as-octets, as-set, as-root), search (in-number32, in-number64, in-null, in-octets, in-set, in-root))
 
 returns-6 : tie.Need-returns-6
-returns-6 c = search (as-number32, as-number64, as-null, as-octets, as-set, as-root)
+returns-6 c = (search (as-number32, as-number64, as-null, as-octets, as-set, as-root), search (in-number32, in-number64, in-null, in-octets, in-set, in-root))
 
 pub read-content-spec : {M : Type 1} → statement M
 read-content-spec =

@@ -3,7 +3,7 @@ use mathlib.Core.Path.{refl}
 use denote.Ref.{now}
 use Prim.Native.Nat.{_-_}
 use native.Mathlib.Omega.{arith}
-use Rattle.reader.proofs.Members.{Gathered, gathered-none, gathered-many, gathered-no, gathered-order, gathered-more, gathered-all, number-small, number-inside}
+use Rattle.reader.proofs.Members.{Gathered, gathered-none, gathered-many, gathered-no, gathered-order, gathered-more, gathered-slots, gathered-all, number-small, number-inside}
 use borrow.Author.Needs.{needs}
 use Rattle.reader.proofs.set.read_members.Statement.{statement}
 use Rattle.reader.proofs.set.read_members.Tie as tie
@@ -21,7 +21,7 @@ loop-holds : tie.Need-loop-holds Inv-loop μ-loop
 loop-holds c = rw (c .empty-set .ensures) (gathered-none (now (c .before .before .args .s)) (c .before .before .args .at) (c .before .before .args .end) (c .before .before .pre .1) (c .before .before .pre .0))
 
 returns : tie.Need-returns Inv-loop μ-loop
-returns c = (search gathered-many, tt)
+returns c = (search gathered-many, (tt, tt))
 
 read-number-requires : tie.Need-read-number-requires Inv-loop μ-loop
 read-number-requires c κs = search needs
@@ -30,13 +30,13 @@ enum-known-k : tie.Need-enum-known-k Inv-loop μ-loop
 enum-known-k c = search needs
 
 returns-2 : tie.Need-returns-2 Inv-loop μ-loop
-returns-2 c = (search gathered-no, tt)
+returns-2 c = (search gathered-no, (tt, tt))
 
 enum-known-x : tie.Need-enum-known-x Inv-loop μ-loop
 enum-known-x c = search needs
 
 returns-3 : tie.Need-returns-3 Inv-loop μ-loop
-returns-3 c = (search gathered-order, tt)
+returns-3 c = (search gathered-order, (tt, tt))
 
 cast-set : tie.Need-cast-set Inv-loop μ-loop
 cast-set c = omega (arith, number-small (now (c .before .before .before .before .before .before .before .before .before .before .args .s)) (c .before .before .before .before .before .before .before .loop .place) (c .before .before .before .before .before .before .before .before .before .before .args .end) 2 0xffff_ffff _ _ _ (c .before .before .before .before .read-number .ensures .0) (c .before .before .x .given .1))
@@ -60,7 +60,7 @@ loop-again : tie.Need-loop-again Inv-loop μ-loop
 loop-again c = search gathered-more
 
 returns-4 : tie.Need-returns-4 Inv-loop μ-loop
-returns-4 c = (search gathered-all, refl)
+returns-4 c = (search gathered-all, (refl, search gathered-slots))
 
 pub read-members-spec : {M : Type 1} → statement M
 read-members-spec =
