@@ -5,18 +5,21 @@ pub mod parts;
 pub mod shape;
 
 // Octets of the buffer, from start on. Document 01's "octet part".
+#[repr(C)]
 pub struct Part {
     pub start: usize,
     pub len: usize,
 }
 
 // "A set holds at most 16 numbers to 2^32-1, kept with their count". Slots from count on are never looked at.
+#[repr(C)]
 pub struct NumberSet {
     pub members: [u32; 16],
     pub count: usize,
 }
 
 // Field 704. The hash is looked at only where hashed is set.
+#[repr(C)]
 pub struct RootOfTrust {
     pub key: Part,
     pub locked: bool,
@@ -27,6 +30,7 @@ pub struct RootOfTrust {
 
 // One list of fields, by the rows of the schema's table. Where a row's field is absent its values are never looked at.
 // A number stands in values; an octet field's start in values and its length in sizes; each set and 704 in its own.
+#[repr(C)]
 pub struct FieldList {
     pub present: [bool; 42],
     pub values: [u64; 42],
@@ -39,11 +43,13 @@ pub struct FieldList {
 }
 
 // A version and its security level: of the attestation, and of KeyMint.
+#[repr(C)]
 pub struct Security {
     pub version: u32,
     pub level: u32,
 }
 
+#[repr(C)]
 pub struct Record {
     pub attestation: Security,
     pub keymint: Security,
