@@ -20,9 +20,11 @@ use Rattle.schema.specs.Decode.{contentOf, readField, readList}
 use Rattle.schema.specs.declared.Row as code
 use Rattle.schema.proofs.Table.{above}
 use Rattle.records.specs.Content.{fieldAt, fieldsOf}
+use Rattle.records.specs.declared.NumberSet.{NumberSet}
+use Rattle.records.specs.declared.RootOfTrust.{RootOfTrust}
 use Rattle.records.specs.declared.FieldList.{FieldList}
 use Rattle.reader.specs.Content.{ofStepped, contentValue}
-use Rattle.reader.specs.Fields.{FieldAt, FieldOpened}
+use Rattle.reader.specs.Fields.{ofField, FieldKept, FieldInside}
 use Rattle.reader.specs.Element.{openedAs, ofTagged}
 use Rattle.reader.specs.Set.{StepAt}
 use Rattle.reader.specs.Lists.{withField, fieldsFrom, ofFields, ofList}
@@ -31,10 +33,11 @@ use Rattle.reader.specs.Inside.{ContentIn, ListIn}
 use Rattle.reader.specs.declared.element.Tagged.{Tagged}
 use Rattle.reader.proofs.Open.{leaf-no, leaf-is}
 use Rattle.reader.specs.declared.set.Step.{Step}
-use Rattle.reader.specs.declared.fields.FieldHead.{FieldHead}
+use Rattle.reader.specs.declared.fields.FieldRead.{FieldRead}
 use Rattle.reader.specs.declared.content.ContentRead.{ContentRead}
 use Rattle.reader.proofs.Chains.{Ahead, ahead-start, ahead-refused, ahead-more, ahead-end}
 use Rattle.reader.proofs.Bounds.{empty-in, stored-in}
+use Rattle.reader.proofs.FieldReads.{field-kept}
 use Rattle.reader.proofs.Lists.{Sized, stored-same, stored-other, stored-sized, upTo-one, empty-none, empty-fields, empty-sized}
 
 pub record Filled (s : List ℕ) (at end v : ℕ) (l : FieldList) (place low : ℕ) : Type 0 where
@@ -45,15 +48,9 @@ pub record Filled (s : List ℕ) (at end v : ℕ) (l : FieldList) (place low : �
   pub ahead : Ahead (readField v) afterField s end (fieldsFrom v at (slice at end s)) (fieldsOf l s) low place
   pub bounds : ListIn (length s) l
 
-number-small : (k : ℕ) → k < 42 → rowAt k .number ≤ 723
-unfolding rows
-number-small k h = by-le 41 k (λ l. let e : k ≡ 41 = omega arith in rw e (omega arith)) (λ l. omega (arith, above k 41 l (omega arith)))
-
--- what a field that was opened says of places
-pub field-facts : (s : List ℕ) (at end v low row n b x : ℕ) (r : FieldHead) → FieldOpened s at end v low r → r ≡ FieldHead.Is row n b x → (row < 42) × ((b ≤ x) × ((at < x) × ((x ≤ end) × (n ≤ 723))))
-field-facts s at end v low row n b x r o w =
-    let f : FieldAt s at end v low row n b x = subst (FieldOpened s at end v low) w o in
-    (f .inTable, (f .stop, (omega (arith, f .body, f .stop), (f .inside, omega (arith, f .isRow, number-small row (f .inTable))))))
+-- the list with one row more; its sets and root of trust as given
+abbrev stored : FieldList → ℕ → ContentRead → NumberSet → NumberSet → NumberSet → NumberSet → RootOfTrust → FieldList
+stored l row c purpose digest padding mgf root = record { present = set (l .present) row true; values = set (l .values) row (c .value); sizes = set (l .sizes) row (c .size); purpose = purpose; digest = digest; padding = padding; mgf = mgf; root = root }
 
 module _ (s : List ℕ) (at end v : ℕ) (fit : end ≤ length s) where
   pub filled-none : at ≤ end → Filled s at end v emptyList at 0
@@ -71,89 +68,69 @@ module _ (s : List ℕ) (at end v : ℕ) (fit : end ≤ length s) where
     refuses : (k q : ℕ) → readField v low place (slice place end s) ≡ refused k q → refused k q ≡ fieldsFrom v at (slice at end s)
     refuses k q w = ahead-refused (readField v) afterField s end fit _ (fieldsOf l s) low place (g .ahead) k q h w
 
-    pub filled-no : (r : FieldHead) (k q : ℕ) → FieldOpened s place end v low r → r ≡ FieldHead.Refused k q → refused k q ≡ fieldsFrom v at (slice at end s)
-    filled-no r k q o w = refuses k q (subst (FieldOpened s place end v low) w o)
+    module _ (f : FieldRead) (e : ofField s end (f .content .step) f ≡ readField v low place (slice place end s)) where
+      pub filled-no : (k q : ℕ) → f .content .step ≡ Step.Refused k q → refused k q ≡ fieldsFrom v at (slice at end s)
+      filled-no k q w = refuses k q (sym (rw w at e))
 
-    module _ (r : FieldHead) (row n b x : ℕ) (o : FieldOpened s place end v low r) (w : r ≡ FieldHead.Is row n b x) (i : code.Row) (qi : ofRow i ≡ rowAt row) (hash : Bool) (qh : hash ≡ leb 3 v) (c : ContentRead)
-        (e : (v p : ℕ) → hash ≡ table.hashed v → ofStepped (c .step) (contentValue s (ofKind (i .kind)) c) ≡ contentOf v (ofKind (i .kind)) p b (slice b x s)) (d : ContentIn (ofKind (i .kind)) (length s) c) where
-      f : FieldAt s place end v low row n b x
-      f = subst (FieldOpened s place end v low) w o
+      module _ (i : FieldInside (length s) place end low (f .content .step) f) (y : ℕ) (w : f .content .step ≡ Step.Past y) where
+        kept : FieldKept (length s) place end low f
+        kept = field-kept (length s) place end low y f i w
 
-      kind : ofKind (i .kind) ≡ rowAt row .kind
-      kind = ap (λ (q : table.Row). q .kind) qi
+        one : readField v low place (slice place end s) ≡ got (taken (field (f .number) (contentValue s (rowAt (f .row) .kind) (f .content))) (f .stop) (slice (f .stop) end s))
+        one = sym (subst (λ (t : Step). ofField s end t f ≡ readField v low place (slice place end s)) w e)
 
-      content : ofStepped (c .step) (contentValue s (rowAt row .kind) c) ≡ contentOf v (rowAt row .kind) place b (slice b x s)
-      unfolding table.hashed
-      content = subst (λ (k : Kind). ofStepped (c .step) (contentValue s k c) ≡ contentOf v k place b (slice b x s)) kind (e v place qh)
+        gone : fieldsOf (withField l (f .row) (f .content)) s ≡ fieldsOf l s ++ (field (f .number) (contentValue s (rowAt (f .row) .kind) (f .content)) ∷ [])
+        gone =
+            let t = kept .inTable in
+            let m : rowAt (f .row) .number ≡ f .number = kept .isRow in
+            upTo-one (fieldAt l s) (fieldAt (withField l (f .row) (f .content)) s) 42 (f .row) t
+            (λ k b ne. stored-other l s (f .row) (f .content) (g .sized) t k b ne)
+            (λ k p b. g .absent k b (upper k p b))
+            ∙ rw (stored-same l s (f .row) (f .content) (g .sized) t, m) refl
+          where
+            upper : (k : ℕ) → f .row ≤ k → k < 42 → low ≤ rowAt k .number
+            upper k p b = by-le k (f .row) (λ q. let e : k ≡ f .row = omega arith in rw e (omega (arith, kept .isRow, kept .above))) (λ q. omega (arith, above (f .row) k q b, kept .isRow, kept .above))
 
-      pub filled-content-no : (k q : ℕ) → c .step ≡ Step.Refused k q → refused k q ≡ fieldsFrom v at (slice at end s)
-      unfolding bind
-      filled-content-no k q z = refuses k q (f .reads ∙ rw (← content, z) refl)
+        filled-more : Filled s at end v (withField l (f .row) (f .content)) (f .stop) (f .number + 1)
+        filled-more =
+            let t = kept .inTable in
+            let m : rowAt (f .row) .number ≡ f .number = kept .isRow in
+            record {
+              from = omega (arith, g .from, kept .onward);
+              to = kept .inside;
+              sized = stored-sized l s (f .row) (f .content) (g .sized) t;
+              absent = λ k b p. stored-other l s (f .row) (f .content) (g .sized) t k b (λ q. absurd (omega (arith, m, ap (λ (j : ℕ). rowAt j .number) q))) ∙ g .absent k b (omega (arith, kept .above));
+              ahead = rw gone (ahead-more (readField v) afterField s end fit _ (fieldsOf l s) low place (g .ahead) (f .stop) (field (f .number) (contentValue s (rowAt (f .row) .kind) (f .content))) h (kept .onward) one);
+              bounds = stored-in (length s) l (f .row) (f .content) (g .sized) t (g .bounds) (kept .bounds);
+            }
 
-      one : (y : ℕ) → c .step ≡ Step.Past y → readField v low place (slice place end s) ≡ got (taken (field n (contentValue s (rowAt row .kind) c)) x (slice x end s))
-      unfolding bind
-      one y z = f .reads ∙ rw (← content, z) refl
+        as-stored : (m : FieldList) → m ≡ withField l (f .row) (f .content) → Filled s at end v m (f .stop) (f .number + 1)
+        as-stored m q = subst (λ (k : FieldList). Filled s at end v k (f .stop) (f .number + 1)) (sym q) filled-more
 
-      gone : fieldsOf (withField l row c) s ≡ fieldsOf l s ++ (field n (contentValue s (rowAt row .kind) c) ∷ [])
-      gone =
-          let t = f .inTable in
-          let m : rowAt row .number ≡ n = f .isRow in
-          upTo-one (fieldAt l s) (fieldAt (withField l row c) s) 42 row t
-          (λ k b ne. stored-other l s row c (g .sized) t k b ne)
-          (λ k p b. g .absent k b (upper k p b))
-          ∙ rw (stored-same l s row c (g .sized) t, m) refl
-        where
-          upper : (k : ℕ) → row ≤ k → k < 42 → low ≤ rowAt k .number
-          upper k p b = by-le k row (λ q. let e : k ≡ row = omega arith in rw e (omega (arith, f .isRow, f .above))) (λ q. omega (arith, above row k q b, f .isRow, f .above))
+        pub filled-purpose : f .row ≡ 0 → Filled s at end v (stored l (f .row) (f .content) (f .content .set) (l .digest) (l .padding) (l .mgf) (l .root)) (f .stop) (f .number + 1)
+        unfolding pick
+        filled-purpose q = as-stored _ (rw q refl)
 
-      pub filled-more : (y : ℕ) → c .step ≡ Step.Past y → Filled s at end v (withField l row c) x (n + 1)
-      filled-more y z =
-          let t = f .inTable in
-          let m : rowAt row .number ≡ n = f .isRow in
-          record {
-            from = omega (arith, g .from, f .body, f .stop);
-            to = f .inside;
-            sized = stored-sized l s row c (g .sized) t;
-            absent = λ k b p. stored-other l s row c (g .sized) t k b (λ q. absurd (omega (arith, m, ap (λ (j : ℕ). rowAt j .number) q))) ∙ g .absent k b (omega (arith, f .above));
-            ahead = rw gone (ahead-more (readField v) afterField s end fit _ (fieldsOf l s) low place (g .ahead) x (field n (contentValue s (rowAt row .kind) c)) h (omega (arith, f .body, f .stop)) (one y z));
-            bounds = stored-in (length s) l row c (g .sized) t (g .bounds) (subst (λ (k : Kind). ContentIn k (length s) c) kind d);
-          }
+        pub filled-digest : f .row ≡ 3 → Filled s at end v (stored l (f .row) (f .content) (l .purpose) (f .content .set) (l .padding) (l .mgf) (l .root)) (f .stop) (f .number + 1)
+        unfolding pick
+        filled-digest q = as-stored _ (rw q refl)
 
-      pub filled-purpose : (y : ℕ) → c .step ≡ Step.Past y → row ≡ 0 → Filled s at end v (record { present = set (l .present) row true; values = set (l .values) row (c .value); sizes = set (l .sizes) row (c .size); purpose = c .set; digest = l .digest; padding = l .padding; mgf = l .mgf; root = l .root }) x (n + 1)
-      unfolding pick
-      filled-purpose y z q =
-          let e : _≡_ {A = FieldList} (record { present = set (l .present) row true; values = set (l .values) row (c .value); sizes = set (l .sizes) row (c .size); purpose = c .set; digest = l .digest; padding = l .padding; mgf = l .mgf; root = l .root }) (withField l row c) = rw q refl in
-          subst (λ (m : FieldList). Filled s at end v m x (n + 1)) (sym e) (filled-more y z)
+        pub filled-padding : f .row ≡ 4 → Filled s at end v (stored l (f .row) (f .content) (l .purpose) (l .digest) (f .content .set) (l .mgf) (l .root)) (f .stop) (f .number + 1)
+        unfolding pick
+        filled-padding q = as-stored _ (rw q refl)
 
-      pub filled-digest : (y : ℕ) → c .step ≡ Step.Past y → row ≡ 3 → Filled s at end v (record { present = set (l .present) row true; values = set (l .values) row (c .value); sizes = set (l .sizes) row (c .size); purpose = l .purpose; digest = c .set; padding = l .padding; mgf = l .mgf; root = l .root }) x (n + 1)
-      unfolding pick
-      filled-digest y z q =
-          let e : _≡_ {A = FieldList} (record { present = set (l .present) row true; values = set (l .values) row (c .value); sizes = set (l .sizes) row (c .size); purpose = l .purpose; digest = c .set; padding = l .padding; mgf = l .mgf; root = l .root }) (withField l row c) = rw q refl in
-          subst (λ (m : FieldList). Filled s at end v m x (n + 1)) (sym e) (filled-more y z)
+        pub filled-mgf : f .row ≡ 7 → Filled s at end v (stored l (f .row) (f .content) (l .purpose) (l .digest) (l .padding) (f .content .set) (l .root)) (f .stop) (f .number + 1)
+        unfolding pick
+        filled-mgf q = as-stored _ (rw q refl)
 
-      pub filled-padding : (y : ℕ) → c .step ≡ Step.Past y → row ≡ 4 → Filled s at end v (record { present = set (l .present) row true; values = set (l .values) row (c .value); sizes = set (l .sizes) row (c .size); purpose = l .purpose; digest = l .digest; padding = c .set; mgf = l .mgf; root = l .root }) x (n + 1)
-      unfolding pick
-      filled-padding y z q =
-          let e : _≡_ {A = FieldList} (record { present = set (l .present) row true; values = set (l .values) row (c .value); sizes = set (l .sizes) row (c .size); purpose = l .purpose; digest = l .digest; padding = c .set; mgf = l .mgf; root = l .root }) (withField l row c) = rw q refl in
-          subst (λ (m : FieldList). Filled s at end v m x (n + 1)) (sym e) (filled-more y z)
+        pub filled-root : f .row ≡ 26 → Filled s at end v (stored l (f .row) (f .content) (l .purpose) (l .digest) (l .padding) (l .mgf) (f .content .root)) (f .stop) (f .number + 1)
+        unfolding pick
+        filled-root q = as-stored _ (rw q refl)
 
-      pub filled-mgf : (y : ℕ) → c .step ≡ Step.Past y → row ≡ 7 → Filled s at end v (record { present = set (l .present) row true; values = set (l .values) row (c .value); sizes = set (l .sizes) row (c .size); purpose = l .purpose; digest = l .digest; padding = l .padding; mgf = c .set; root = l .root }) x (n + 1)
-      unfolding pick
-      filled-mgf y z q =
-          let e : _≡_ {A = FieldList} (record { present = set (l .present) row true; values = set (l .values) row (c .value); sizes = set (l .sizes) row (c .size); purpose = l .purpose; digest = l .digest; padding = l .padding; mgf = c .set; root = l .root }) (withField l row c) = rw q refl in
-          subst (λ (m : FieldList). Filled s at end v m x (n + 1)) (sym e) (filled-more y z)
-
-      pub filled-root : (y : ℕ) → c .step ≡ Step.Past y → row ≡ 26 → Filled s at end v (record { present = set (l .present) row true; values = set (l .values) row (c .value); sizes = set (l .sizes) row (c .size); purpose = l .purpose; digest = l .digest; padding = l .padding; mgf = l .mgf; root = c .root }) x (n + 1)
-      unfolding pick
-      filled-root y z q =
-          let e : _≡_ {A = FieldList} (record { present = set (l .present) row true; values = set (l .values) row (c .value); sizes = set (l .sizes) row (c .size); purpose = l .purpose; digest = l .digest; padding = l .padding; mgf = l .mgf; root = c .root }) (withField l row c) = rw q refl in
-          subst (λ (m : FieldList). Filled s at end v m x (n + 1)) (sym e) (filled-more y z)
-
-      pub filled-plain : (y : ℕ) → c .step ≡ Step.Past y → (row ≡ 0 → ⊥) → (row ≡ 3 → ⊥) → (row ≡ 4 → ⊥) → (row ≡ 7 → ⊥) → (row ≡ 26 → ⊥) → Filled s at end v (record { present = set (l .present) row true; values = set (l .values) row (c .value); sizes = set (l .sizes) row (c .size); purpose = l .purpose; digest = l .digest; padding = l .padding; mgf = l .mgf; root = l .root }) x (n + 1)
-      unfolding pick
-      filled-plain y z a₀ a₃ a₄ a₇ a₂₆ =
-          let e : _≡_ {A = FieldList} (record { present = set (l .present) row true; values = set (l .values) row (c .value); sizes = set (l .sizes) row (c .size); purpose = l .purpose; digest = l .digest; padding = l .padding; mgf = l .mgf; root = l .root }) (withField l row c) = rw (ne-eqb row 0 a₀, ne-eqb row 3 a₃, ne-eqb row 4 a₄, ne-eqb row 7 a₇, ne-eqb row 26 a₂₆) refl in
-          subst (λ (m : FieldList). Filled s at end v m x (n + 1)) (sym e) (filled-more y z)
+        pub filled-plain : (f .row ≡ 0 → ⊥) → (f .row ≡ 3 → ⊥) → (f .row ≡ 4 → ⊥) → (f .row ≡ 7 → ⊥) → (f .row ≡ 26 → ⊥)
+            → Filled s at end v (stored l (f .row) (f .content) (l .purpose) (l .digest) (l .padding) (l .mgf) (l .root)) (f .stop) (f .number + 1)
+        unfolding pick
+        filled-plain a₀ a₃ a₄ a₇ a₂₆ = as-stored _ (rw (ne-eqb (f .row) 0 a₀, ne-eqb (f .row) 3 a₃, ne-eqb (f .row) 4 a₄, ne-eqb (f .row) 7 a₇, ne-eqb (f .row) 26 a₂₆) refl)
 
   pub filled-in : (l : FieldList) (place low : ℕ) → Filled s at end v l place low → ListIn (length s) l
   filled-in l place low g = g .bounds

@@ -8,6 +8,7 @@ pub mod Contents
 pub mod FieldHeads
 pub mod Lists
 pub mod Bounds
+pub mod FieldReads
 pub mod Filling
 pub mod Roots
 pub mod Eights

@@ -3,10 +3,10 @@ pub mod Element
 pub mod Leaf
 pub mod Set
 pub mod Content
+pub mod Root
+pub mod Inside
 pub mod Fields
 pub mod Lists
-pub mod Root
 pub mod Head
 pub mod Eight
 pub mod Reading
-pub mod Inside

@@ -51,7 +51,7 @@ pub(crate) fn empty_root() -> RootOfTrust
     }
 }
 
-fn plain(step: Step, value: u64, size: u64) -> ContentRead
+pub(crate) fn plain(step: Step, value: u64, size: u64) -> ContentRead
     ensures { λ r. ⌜ r ≡ plainContent step value size ⌝ }
 {
     ContentRead {

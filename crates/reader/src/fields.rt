@@ -1,5 +1,7 @@
 // One list of fields: explicit tags in strictly ascending number, each one that the version holds.
+use crate::content::ContentRead;
 use crate::content::empty_root;
+use crate::content::plain;
 use crate::content::read_content;
 use crate::element::Element;
 use crate::element::Tagged;
@@ -18,9 +20,9 @@ ghost use mathlib.Core.Path.{_≡_};
 ghost use Prim.Native.Nat.{_≤_};
 ghost use lib.ListN.{length};
 ghost use lib.Seq.{slice};
-ghost use Rattle.schema.specs.Decode.{readList};
+ghost use Rattle.schema.specs.Decode.{readField, readList};
 ghost use Rattle.reader.specs.Set.{StepAt, StepInside};
-ghost use Rattle.reader.specs.Fields.{FieldOpened};
+ghost use Rattle.reader.specs.Fields.{FieldOpened, ofField, FieldInside};
 ghost use Rattle.reader.specs.Lists.{fieldsFrom, ofFields, ofList};
 ghost use Rattle.reader.specs.Empty.{emptyList};
 ghost use Rattle.reader.specs.Inside.{ListIn};
@@ -72,6 +74,44 @@ fn open_field(s: &[u8], at: usize, end: usize, version: u32, low: usize) -> Fiel
     }
 }
 
+// A field that was read: its row and number, where it stops, and its content; refused where its content is.
+pub(crate) struct FieldRead {
+    pub row: usize,
+    pub number: usize,
+    pub stop: usize,
+    pub content: ContentRead,
+}
+
+// "content, then 9 for an extra element": one field, up to its end.
+fn read_field(s: &[u8], at: usize, end: usize, version: u32, low: usize) -> FieldRead
+    requires { ⌜ end ≤ length (now s) ⌝ }
+    ensures is { λ r. ⌜ ofField (now (s .entry)) end (r .content .step) r ≡ readField version low at (slice at end (now (s .entry))) ⌝ }
+    ensures inside { λ r. ⌜ FieldInside (length (now (s .entry))) at end low (r .content .step) r ⌝ }
+{
+    match open_field(s, at, end, version, low) {
+        FieldHead::Refused(k, place) => FieldRead {
+            row: 0,
+            number: 0,
+            stop: at,
+            content: plain(Step::Refused(k, place), 0, 0),
+        },
+        FieldHead::Is {
+            row,
+            number,
+            body,
+            stop,
+        } => {
+            let kind = row_at(row).kind;
+            FieldRead {
+                row,
+                number,
+                stop,
+                content: read_content(s, body, stop, kind, 3 <= version),
+            }
+        }
+    }
+}
+
 // A list, and the next place; where it is refused, the fields up to there.
 pub(crate) struct ListRead {
     pub step: Step,
@@ -101,54 +141,36 @@ fn read_fields(s: &[u8], at: usize, end: usize, version: u32) -> ListRead
     ensures inside { λ r. ⌜ StepAt end (r .step) ⌝ }
     ensures bounds { λ r. ⌜ ListIn (length (now (s .entry))) (r .list) ⌝ }
 {
-    let hashed = 3 <= version;
     let mut list = empty_list();
     let mut place = at;
     let mut low: usize = 0;
     while place < end {
-        match open_field(s, place, end, version, low) {
-            FieldHead::Refused(k, fault) => {
+        let field = read_field(s, place, end, version, low);
+        let content = field.content;
+        let step = content.step;
+        match step {
+            Step::Refused(k, fault) => {
                 return ListRead {
                     step: Step::Refused(k, fault),
                     list,
                 };
             }
-            FieldHead::Is {
-                row,
-                number,
-                body,
-                stop,
-            } => {
-                let kind = row_at(row).kind;
-                let c = read_content(s, body, stop, kind, hashed);
-                let step = c.step;
-                match step {
-                    Step::Refused(k, fault) => {
-                        return ListRead {
-                            step: Step::Refused(k, fault),
-                            list,
-                        };
-                    }
-                    Step::Past(_) => {
-                        list.present[row] = true;
-                        list.values[row] = c.value;
-                        list.sizes[row] = c.size;
-                        let set = c.set;
-                        let root = c.root;
-                        place = stop;
-                        low = number + 1;
-                        if row == 0 {
-                            list.purpose = set;
-                        } else if row == 3 {
-                            list.digest = set;
-                        } else if row == 4 {
-                            list.padding = set;
-                        } else if row == 7 {
-                            list.mgf = set;
-                        } else if row == 26 {
-                            list.root = root;
-                        }
-                    }
+            Step::Past(_) => {
+                let row = field.row;
+                let set = content.set;
+                let root = content.root;
+                list.present[row] = true;
+                list.values[row] = content.value;
+                list.sizes[row] = content.size;
+                place = field.stop;
+                low = field.number + 1;
+                match row {
+                    0 => list.purpose = set,
+                    3 => list.digest = set,
+                    4 => list.padding = set,
+                    7 => list.mgf = set,
+                    26 => list.root = root,
+                    _ => {}
                 }
             }
         }

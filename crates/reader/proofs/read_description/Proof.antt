@@ -46,13 +46,13 @@ returns-2 : tie.Need-returns-2
 returns-2 c = (read-spare (now (c .before .before .before .before .before .before .before .before .before .before .before .before .before .args .s)) (c .before .before .before .before .before .before .before .before .before .before .before .before .before .args .count) (c .before .before .before .before .before .before .before .before .before .before .before .open-tagged .result) (c .before .before .before .before .before .before .before .before .before .before .before .open-tagged .ensures .0) _ _ (c .before .before .before .before .before .before .before .before .before .body .given .1) (c .before .before .before .before .before .before .before .before .before .before .before .open-tagged .ensures .1) (c .before .before .before .before .before .before .before .read-eight .result .step) (c .before .before .before .before .before .before .before .read-eight .result .said) (c .before .before .before .before .before .before .before .read-eight .ensures .0) _ (c .before .before .before .before .step2 .given .1) (c .before .before .before .before .before .before .before .read-eight .ensures .1 .0) (c .before .before .if1 .left) (c .refused4 .result) (c .before .if2 .taken) (c .refused4 .ensures), (refused-empty _ _ (c .refused4 .result) (c .refused4 .ensures), refused-in _ _ _ (c .refused4 .result) (c .refused4 .ensures)))
 
 returns-3 : tie.Need-returns-3
-returns-3 c = (search (read-no, read-eight-no, read-extra, read-spare, read-is), (search (needs, refused-empty), search (needs, refused-in)))
+returns-3 c = (search (read-no, read-eight-no, read-extra, read-spare), (search (needs, refused-empty), search (needs, refused-in)))
 
 returns-4 : tie.Need-returns-4
-returns-4 c = (search (read-no, read-eight-no, read-extra, read-spare, read-is), (search (needs, refused-empty), search (needs, refused-in)))
+returns-4 c = (search (read-no, read-eight-no, read-extra, read-spare), (search (needs, refused-empty), search (needs, refused-in)))
 
 returns-5 : tie.Need-returns-5
-returns-5 c = (search (read-no, read-eight-no, read-extra, read-spare, read-is), (search (needs, refused-empty), search (needs, refused-in)))
+returns-5 c = (search read-is, (search needs, search needs))
 
 pub read-description-spec : {M : Type 1} → statement M
 read-description-spec =

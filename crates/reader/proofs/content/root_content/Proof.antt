@@ -24,10 +24,10 @@ empty-set-requires : tie.Need-empty-set-requires
 empty-set-requires c κs = search needs
 
 returns : tie.Need-returns
-returns c = (search (root-content-no, root-content-is), search (plain-in, root-in))
+returns c = (search (root-content-no, root-content-is), search plain-in)
 
 returns-2 : tie.Need-returns-2
-returns-2 c = (search (root-content-no, root-content-is), search (plain-in, root-in))
+returns-2 c = (search root-content-is, search (plain-in, root-in))
 
 pub root-content-spec : {M : Type 1} → statement M
 root-content-spec =

@@ -24,10 +24,10 @@ empty-root-requires : tie.Need-empty-root-requires
 empty-root-requires c κs = search needs
 
 returns : tie.Need-returns
-returns c = (search (set-content-no, set-content-is), search (plain-in, set-in))
+returns c = (search (set-content-no, set-content-is), search plain-in)
 
 returns-2 : tie.Need-returns-2
-returns-2 c = (search (set-content-no, set-content-is), search (plain-in, set-in))
+returns-2 c = (search set-content-is, search (plain-in, set-in))
 
 pub set-content-spec : {M : Type 1} → statement M
 set-content-spec =

@@ -45,10 +45,10 @@ enum-known-last-2 : tie.Need-enum-known-last-2
 enum-known-last-2 c = search needs
 
 returns : tie.Need-returns
-returns c = (search (eight-no, eight-no-software, eight-no-hardware, eight-is), (refused-inside (c .before .before .before .before .before .before .args .at) (c .before .before .before .before .before .before .args .end) _ _ _ (c .refused-eight .ensures), refused-eight-in _ _ _ (c .refused-eight .result) (c .refused-eight .ensures)))
+returns c = (search (eight-no, eight-no-software, eight-no-hardware), (refused-inside (c .before .before .before .before .before .before .args .at) (c .before .before .before .before .before .before .args .end) _ _ _ (c .refused-eight .ensures), refused-eight-in _ _ _ (c .refused-eight .result) (c .refused-eight .ensures)))
 
 returns-2 : tie.Need-returns-2
-returns-2 c = (search (eight-no, eight-no-software, eight-no-hardware, eight-is), (refused-inside (c .before .before .before .before .before .before .before .before .before .before .before .args .at) (c .before .before .before .before .before .before .before .before .before .before .before .args .end) _ _ _ (c .refused-eight2 .ensures), refused-eight-in _ _ _ (c .refused-eight2 .result) (c .refused-eight2 .ensures)))
+returns-2 c = (search (eight-no, eight-no-software, eight-no-hardware), (refused-inside (c .before .before .before .before .before .before .before .before .before .before .before .args .at) (c .before .before .before .before .before .before .before .before .before .before .before .args .end) _ _ _ (c .refused-eight2 .ensures), refused-eight-in _ _ _ (c .refused-eight2 .result) (c .refused-eight2 .ensures)))
 
 returns-3 : tie.Need-returns-3
 returns-3 c = (eight-no-hardware (now (c .before .before .before .before .before .before .before .before .before .before .before .before .before .before .before .before .args .s)) (c .before .before .before .before .before .before .before .before .before .before .before .before .before .before .before .before .args .at) (c .before .before .before .before .before .before .before .before .before .before .before .before .before .before .before .before .args .end) (c .before .before .before .before .before .before .before .before .before .before .before .before .before .before .read-head .result) (c .before .before .before .before .before .before .before .before .before .before .before .before .before .before .read-head .ensures .0) _ _ _ _ _ (c .before .before .before .before .before .before .before .before .before .before .before .before .attestation .given .1) (c .before .before .before .before .before .before .before .before .before .before .read-list .result .step) (c .before .before .before .before .before .before .before .before .before .before .read-list .result .list) (c .before .before .before .before .before .before .before .before .before .before .read-list .ensures .0) _ (c .before .before .before .before .before .before .before .after2 .given .1) (c .before .before .before .before .before .read-list2 .result .step) (c .before .before .before .before .before .read-list2 .result .list) (c .before .before .before .before .before .read-list2 .ensures .0) _ _ (c .refused-eight3 .result) (c .before .before .last .given .1) (c .refused-eight3 .ensures), (refused-inside (c .before .before .before .before .before .before .before .before .before .before .before .before .before .before .before .before .args .at) (c .before .before .before .before .before .before .before .before .before .before .before .before .before .before .before .before .args .end) _ _ _ (c .refused-eight3 .ensures), refused-eight-in _ _ _ (c .refused-eight3 .result) (c .refused-eight3 .ensures)))

@@ -14,16 +14,16 @@ enum-known-f : tie.Need-enum-known-f
 enum-known-f c = search needs
 
 returns : tie.Need-returns
-returns c = (search (tagged-no, tagged-form, tagged-number, tagged-is), search (needs, element-inside))
+returns c = (search (tagged-no, tagged-form, tagged-number), search needs)
 
 returns-2 : tie.Need-returns-2
-returns-2 c = (search (tagged-no, tagged-form, tagged-number, tagged-is), search (needs, element-inside))
+returns-2 c = (search (tagged-no, tagged-form, tagged-number), search needs)
 
 returns-3 : tie.Need-returns-3
-returns-3 c = (search (tagged-no, tagged-form, tagged-number, tagged-is), search (needs, element-inside))
+returns-3 c = (search tagged-no, search needs)
 
 returns-4 : tie.Need-returns-4
-returns-4 c = (search (tagged-no, tagged-form, tagged-number, tagged-is), element-inside (c .before .before .before .before .before .before .before .args .at) (c .before .before .before .before .before .before .before .args .end) _ _ _ _ _ (c .before .before .before .before .before .open-element .ensures .1) (c .before .before .before .f .given .1))
+returns-4 c = (search tagged-is, element-inside (c .before .before .before .before .before .before .before .args .at) (c .before .before .before .before .before .before .before .args .end) _ _ _ _ _ (c .before .before .before .before .before .open-element .ensures .1) (c .before .before .before .f .given .1))
 
 pub open-tagged-spec : {M : Type 1} → statement M
 open-tagged-spec =

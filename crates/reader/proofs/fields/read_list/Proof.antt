@@ -24,10 +24,10 @@ read-fields-requires : tie.Need-read-fields-requires
 read-fields-requires c κs = omega (arith, tagged-inside (c .before .before .before .before .before .args .at) (c .before .before .before .before .before .args .end) _ _ _ (c .before .before .before .open-tagged .ensures .1) (c .before .body .given .1))
 
 returns : tie.Need-returns
-returns c = (search (list-no, list-is), (search (needs, step-inside), search (needs, list-empty-in)))
+returns c = (search (list-no, list-is), (search needs, search (needs, list-empty-in)))
 
 returns-2 : tie.Need-returns-2
-returns-2 c = (search (list-no, list-is), (search (needs, step-inside), search (needs, list-empty-in)))
+returns-2 c = (search list-is, (search (needs, step-inside), search (needs, list-empty-in)))
 
 pub read-list-spec : {M : Type 1} → statement M
 read-list-spec =

@@ -19,22 +19,22 @@ sub-if1 : tie.Need-sub-if1
 sub-if1 c = tagged-inside (c .before .before .before .before .before .args .at) (c .before .before .before .before .before .args .end) _ _ _ (c .before .before .before .open-tagged .ensures .1) (c .before .body .given .1) .1 .0
 
 returns : tie.Need-returns
-returns c = (search (boolean-no, boolean-long, boolean-false, boolean-true, boolean-other), tt)
+returns c = (search (boolean-no, boolean-long, boolean-other), tt)
 
 shared-slice-read-a : tie.Need-shared-slice-read-a
 shared-slice-read-a c = omega (arith, tagged-inside (c .before .before .before .before .before .before .before .args .at) (c .before .before .before .before .before .before .before .args .end) _ _ _ (c .before .before .before .before .before .open-tagged .ensures .1) (c .before .before .before .body .given .1))
 
 returns-2 : tie.Need-returns-2
-returns-2 c = (search (boolean-no, boolean-long, boolean-false, boolean-true, boolean-other), omega (arith, tagged-inside (c .before .before .before .before .before .before .before .before .args .at) (c .before .before .before .before .before .before .before .before .args .end) _ _ _ (c .before .before .before .before .before .before .open-tagged .ensures .1) (c .before .before .before .before .body .given .1)))
+returns-2 c = (search boolean-false, omega (arith, tagged-inside (c .before .before .before .before .before .before .before .before .args .at) (c .before .before .before .before .before .before .before .before .args .end) _ _ _ (c .before .before .before .before .before .before .open-tagged .ensures .1) (c .before .before .before .before .body .given .1)))
 
 returns-3 : tie.Need-returns-3
-returns-3 c = (search (boolean-no, boolean-long, boolean-false, boolean-true, boolean-other), omega (arith, tagged-inside (c .before .before .before .before .before .before .before .before .before .args .at) (c .before .before .before .before .before .before .before .before .before .args .end) _ _ _ (c .before .before .before .before .before .before .before .open-tagged .ensures .1) (c .before .before .before .before .before .body .given .1)))
+returns-3 c = (search boolean-true, omega (arith, tagged-inside (c .before .before .before .before .before .before .before .before .before .args .at) (c .before .before .before .before .before .before .before .before .before .args .end) _ _ _ (c .before .before .before .before .before .before .before .open-tagged .ensures .1) (c .before .before .before .before .before .body .given .1)))
 
 returns-4 : tie.Need-returns-4
-returns-4 c = (search (boolean-no, boolean-long, boolean-false, boolean-true, boolean-other), tt)
+returns-4 c = (search boolean-no, tt)
 
 returns-5 : tie.Need-returns-5
-returns-5 c = (search (boolean-no, boolean-long, boolean-false, boolean-true, boolean-other), tt)
+returns-5 c = (search (boolean-no, boolean-long, boolean-other), tt)
 
 pub read-boolean-spec : {M : Type 1} → statement M
 read-boolean-spec =

@@ -16,13 +16,13 @@ enum-known-body : tie.Need-enum-known-body
 enum-known-body c = search needs
 
 returns : tie.Need-returns
-returns c = (search (null-no, null-is, null-some), omega (arith, tagged-inside (c .before .before .before .before .before .before .args .at) (c .before .before .before .before .before .before .args .end) _ _ _ (c .before .before .before .before .open-tagged .ensures .1) (c .before .before .body .given .1)))
+returns c = (search null-is, omega (arith, tagged-inside (c .before .before .before .before .before .before .args .at) (c .before .before .before .before .before .before .args .end) _ _ _ (c .before .before .before .before .open-tagged .ensures .1) (c .before .before .body .given .1)))
 
 returns-2 : tie.Need-returns-2
-returns-2 c = (search (null-no, null-is, null-some), tt)
+returns-2 c = (search null-no, tt)
 
 returns-3 : tie.Need-returns-3
-returns-3 c = (search (null-no, null-is, null-some), tt)
+returns-3 c = (search (null-no, null-some), tt)
 
 pub read-null-spec : {M : Type 1} → statement M
 read-null-spec =

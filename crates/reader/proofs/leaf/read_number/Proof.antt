@@ -25,13 +25,13 @@ enum-known-n : tie.Need-enum-known-n
 enum-known-n c = search needs
 
 returns : tie.Need-returns
-returns c = (search (number-no, number-wrong, number-is), search needs)
+returns c = (search number-no, search needs)
 
 returns-2 : tie.Need-returns-2
-returns-2 c = (search (number-no, number-wrong, number-is), search needs)
+returns-2 c = (search (number-no, number-wrong), search needs)
 
 returns-3 : tie.Need-returns-3
-returns-3 c = (search (number-no, number-wrong, number-is), omega (arith, tagged-inside (c .before .before .before .before .before .before .before .before .before .args .at) (c .before .before .before .before .before .before .before .before .before .args .end) _ _ _ (c .before .before .before .before .before .before .before .open-tagged .ensures .1) (c .before .before .before .before .before .body .given .1)))
+returns-3 c = (search number-is, omega (arith, tagged-inside (c .before .before .before .before .before .before .before .before .before .args .at) (c .before .before .before .before .before .before .before .before .before .args .end) _ _ _ (c .before .before .before .before .before .before .before .open-tagged .ensures .1) (c .before .before .before .before .before .body .given .1)))
 
 pub read-number-spec : {M : Type 1} → statement M
 read-number-spec =

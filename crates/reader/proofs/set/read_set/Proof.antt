@@ -22,10 +22,10 @@ read-members-requires : tie.Need-read-members-requires
 read-members-requires c κs = omega (arith, tagged-inside (c .before .before .before .before .before .args .at) (c .before .before .before .before .before .args .end) _ _ _ (c .before .before .before .open-tagged .ensures .1) (c .before .body .given .1))
 
 returns : tie.Need-returns
-returns c = (search (set-no, set-is), (search (needs, step-inside), search needs))
+returns c = (search (set-no, set-is), (search needs, search needs))
 
 returns-2 : tie.Need-returns-2
-returns-2 c = (search (set-no, set-is), (search (needs, step-inside), search needs))
+returns-2 c = (search set-is, (search (needs, step-inside), search needs))
 
 pub read-set-spec : {M : Type 1} → statement M
 read-set-spec =
