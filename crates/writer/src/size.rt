@@ -1,0 +1,179 @@
+// How many octets each piece of an encoding has, counted up to 8,193. Nothing here asks that a record be well-shaped:
+// sets are cut at their 16 slots and parts at the end of the buffer, as a record's content is.
+use crate::part::octets_of;
+use der::write::identifier_size;
+use der::write::integer_size;
+use der::write::length_size;
+use records::FieldList;
+use records::NumberSet;
+use records::Part;
+use records::Record;
+use records::RootOfTrust;
+use records::Security;
+use records::shape::set_at;
+use schema::Kind;
+use schema::Row;
+ghost use mathlib.Core.Path.{_≡_};
+ghost use Prim.Native.Nat.{_+_, _<_};
+ghost use Rattle.codec.specs.Integer.{integerElement};
+ghost use Rattle.codec.specs.Element.{chainOctets};
+ghost use Rattle.schema.specs.Rows.{ofKind};
+ghost use Rattle.schema.specs.Content.{enumeratedElement, octetsElement, rootContent, valueElement, fieldElement};
+ghost use Rattle.records.specs.Content.{partOf, membersOf, rootOf, valueAt, fieldsOf};
+ghost use Rattle.writer.specs.Size.{capped, elementSize, Sized, securityOctets, headOctets, Measured};
+
+// Of the fields of each list and of the eight elements, without their headers; and of the whole encoding.
+pub(crate) struct Sizes {
+    pub(crate) software: usize,
+    pub(crate) hardware: usize,
+    pub(crate) eight: usize,
+    pub(crate) whole: usize,
+}
+
+// The sum of two sizes; it cannot wrap.
+fn add(a: usize, b: usize) -> usize
+    ensures { λ n. ⌜ n ≡ capped (a + b) ⌝ }
+{
+    if 8193 <= a {
+        return 8193;
+    }
+    if 8193 - a <= b {
+        return 8193;
+    }
+    a + b
+}
+
+// An element of this tag number with body content octets.
+fn element_size(number: usize, body: usize) -> usize
+    ensures { λ n. ⌜ n ≡ elementSize number body ⌝ }
+{
+    let header = identifier_size(number) + length_size(body);
+    add(header, body)
+}
+
+// An INTEGER or ENUMERATED.
+fn number_size(x: u64) -> usize
+    ensures integer { λ n. ⌜ Sized (integerElement x) n ⌝ }
+    ensures enumerated { λ n. ⌜ Sized (enumeratedElement x) n ⌝ }
+{
+    2 + integer_size(x)
+}
+
+// The OCTET STRING of a part.
+fn part_size(s: &[u8], p: Part) -> usize
+    ensures { λ n. ⌜ Sized (octetsElement (partOf (now (s .entry)) p)) n ⌝ }
+{
+    let t = octets_of(s, p);
+    element_size(4, t.len())
+}
+
+// The members of a set, without the set's header.
+pub(crate) fn members_size(g: NumberSet) -> usize
+    ensures { λ n. ⌜ Sized (chainOctets integerElement (membersOf g)) n ⌝ }
+{
+    let members = g.members;
+    let count = g.count;
+    let mut n: usize = 0;
+    let mut i: usize = 0;
+    while i < 16 {
+        if count <= i {
+            return n;
+        }
+        n = add(n, number_size(members[i] as u64));
+        i += 1;
+    }
+    n
+}
+
+// What RootOfTrust's SEQUENCE holds.
+pub(crate) fn root_size(s: &[u8], t: RootOfTrust) -> usize
+    ensures { λ n. ⌜ Sized (rootContent (rootOf (now (s .entry)) t)) n ⌝ }
+{
+    let key = part_size(s, t.key);
+    let locked = add(key, 3);
+    let fixed = add(locked, number_size(t.state as u64));
+    if t.hashed {
+        return add(fixed, part_size(s, t.hash));
+    }
+    fixed
+}
+
+// The value of a row of a list, by its kind.
+pub(crate) fn value_size(s: &[u8], l: FieldList, place: usize, row: Row) -> usize
+    requires { ⌜ place < 42 ⌝ }
+    ensures { λ n. ⌜ Sized (valueElement (valueAt l (now (s .entry)) (row .number) (ofKind (row .kind)) place)) n ⌝ }
+{
+    let kind = row.kind;
+    match kind {
+        Kind::Set => element_size(17, members_size(set_at(l, row.number))),
+        Kind::Number32 => number_size(l.values[place]),
+        Kind::Number64 => number_size(l.values[place]),
+        Kind::Null => 2,
+        Kind::Octets => part_size(
+            s,
+            Part {
+                start: l.values[place] as usize,
+                len: l.sizes[place] as usize,
+            },
+        ),
+        Kind::Root => element_size(16, root_size(s, l.root)),
+    }
+}
+
+// The present fields of a list, without the list's header.
+pub(crate) fn fields_size(s: &[u8], l: FieldList) -> usize
+    ensures { λ n. ⌜ Sized (chainOctets fieldElement (fieldsOf l (now (s .entry)))) n ⌝ }
+{
+    let mut n: usize = 0;
+    let mut place: usize = 0;
+    while place < 42 {
+        if l.present[place] {
+            let row = schema::row_at(place);
+            n = add(n, element_size(row.number, value_size(s, l, place, row)));
+            place += 1;
+        } else {
+            place += 1;
+        }
+    }
+    n
+}
+
+// A version and its level.
+fn security_size(v: Security) -> usize
+    ensures { λ n. ⌜ Sized (securityOctets (v .version) (v .level)) n ⌝ }
+{
+    let version = number_size(v.version as u64);
+    add(version, number_size(v.level as u64))
+}
+
+// The six elements before the lists.
+fn head_size(
+    s: &[u8],
+    attestation: Security,
+    keymint: Security,
+    challenge: Part,
+    unique: Part,
+) -> usize
+    ensures { λ n. ⌜ Sized (headOctets (securityOctets (attestation .version) (attestation .level)) (securityOctets (keymint .version) (keymint .level)) (partOf (now (s .entry)) challenge) (partOf (now (s .entry)) unique)) n ⌝ }
+{
+    let versions = add(security_size(attestation), security_size(keymint));
+    let parts = add(part_size(s, challenge), part_size(s, unique));
+    add(versions, parts)
+}
+
+// All that the writer needs to know before it writes.
+pub(crate) fn sizes_of(s: &[u8], r: Record) -> Sizes
+    ensures { λ z. ⌜ Measured r (now (s .entry)) z ⌝ }
+{
+    let head = head_size(s, r.attestation, r.keymint, r.challenge, r.unique);
+    let software = fields_size(s, r.software);
+    let hardware = fields_size(s, r.hardware);
+    let lists = add(element_size(16, software), element_size(16, hardware));
+    let eight = add(head, lists);
+    Sizes {
+        software,
+        hardware,
+        eight,
+        whole: element_size(16, eight),
+    }
+}
