@@ -2,9 +2,8 @@
 -- is cut at 8,193 on the way is the sum cut at the end. Assumes nothing.
 use mathlib.Core.Path.{_≡_, refl, sym, ap, _∙_}
 use mathlib.Core.Bool.{Bool, true, false}
-use mathlib.Core.Option.{some, none}
 use mathlib.Core.List.{List, [], _∷_, _++_, append-assoc, append-nil}
-use Prim.Native.Nat.{ℕ, zero, suc, _+_, _-_, _<_, _≤_}
+use Prim.Native.Nat.{ℕ, _+_, _-_, _<_, _≤_}
 use native.Mathlib.Omega.{arith}
 use native.Mathlib.Numerals.{add-one}
 use native.Mathlib.Nat.{add-comm}
@@ -22,7 +21,7 @@ use Rattle.schema.specs.declared.Kind.{Kind}
 use Rattle.schema.specs.declared.Row.{Row}
 use Rattle.schema.specs.Table.{rowAt}
 use Rattle.schema.specs.Rows.{ofKind, ofRow}
-use Rattle.schema.specs.Content.{nums, trust, Field, enumeratedElement, octetsElement, booleanElement, hashElement, rootContent, valueElement, fieldElement, listElement, keyDescription, encode}
+use Rattle.schema.specs.Content.{enumeratedElement, octetsElement, booleanElement, hashElement, rootContent, valueElement, fieldElement, listElement, keyDescription, encode}
 use Rattle.records.specs.declared.NumberSet.{NumberSet}
 use Rattle.records.specs.declared.RootOfTrust.{RootOfTrust}
 use Rattle.records.specs.declared.FieldList.{FieldList}
@@ -60,11 +59,18 @@ capped-sum x y =
     ∙ capped-left y x
     ∙ ap capped (add-comm y x)
 
-capped-same : (b x : ℕ) → x ≤ 8192 → capped b ≡ capped x → b ≡ x
+pub capped-same : (b x : ℕ) → x ≤ 8192 → capped b ≡ capped x → b ≡ x
 capped-same b x h e = omega arith
 
 capped-over : (b x : ℕ) → 8192 < x → capped b ≡ capped x → 8193 ≤ b
 capped-over b x h e = omega arith
+
+-- what a size that was found says
+pub sized-over : (xs : List ℕ) (n : ℕ) → Sized xs n → 8192 < n → 8192 < length xs
+sized-over xs n e h = omega arith
+
+pub sized-within : (xs : List ℕ) (n : ℕ) → Sized xs n → n ≤ 8192 → n ≡ length xs
+sized-within xs n e h = omega arith
 
 -- one piece after another
 pub joined : (xs ys : List ℕ) (a b r : ℕ) → Sized xs a → Sized ys b → r ≡ capped (a + b) → Sized (xs ++ ys) r
@@ -91,7 +97,7 @@ element-sized f n b r xs e q =
     (λ h. let o = capped-over b (length xs) h e in
     record { is = q ∙ capped-all _ (omega arith) ∙ rw (element-length f n xs) (sym (capped-all _ (omega arith))) })
 
-capped-twice : (x : ℕ) → capped (capped x) ≡ capped x
+pub capped-twice : (x : ℕ) → capped (capped x) ≡ capped x
 capped-twice x = omega arith
 
 pub around : (f n b r : ℕ) (xs : List ℕ) → Sized xs b → r ≡ elementSize n b → Sized (elementOctets (identifier f n) xs) r

@@ -1,0 +1,255 @@
+// The octets of each piece of an encoding, put at a place of a lent output. Each function answers the place after them.
+// The writer has found the size before, so what is put is known to fit; where it would not, nothing more is put.
+use crate::part::octets_of;
+use crate::size::Sizes;
+use crate::size::members_size;
+use crate::size::root_size;
+use crate::size::value_size;
+use der::write;
+use der::write::Written;
+use records::FieldList;
+use records::NumberSet;
+use records::Part;
+use records::Record;
+use records::RootOfTrust;
+use records::Security;
+use records::shape::set_at;
+use schema::Kind;
+use schema::Row;
+ghost use mathlib.Core.List.{[], _∷_};
+ghost use Prim.Native.Nat.{_<_, _≤_};
+ghost use Rattle.codec.specs.Integer.{integerElement};
+ghost use Rattle.codec.specs.Header.{identifier, headerOctets};
+ghost use Rattle.codec.specs.Element.{chainOctets};
+ghost use Rattle.schema.specs.Rows.{ofKind};
+ghost use Rattle.schema.specs.Content.{enumeratedElement, octetsElement, booleanElement, rootContent, valueElement, fieldElement, listElement, encode, nums, trust};
+ghost use Rattle.records.specs.Content.{partOf, membersOf, rootOf, valueAt, fieldsOf, contentOf};
+ghost use Rattle.writer.specs.Size.{Sized, securityOctets, headOctets, Measured};
+ghost use Rattle.writer.specs.Put.{fieldOf, Puts};
+
+// The header of an element with size content octets.
+fn put_header(out: &mut [u8], at: usize, form: u8, number: usize, size: usize) -> usize
+    requires { ⌜ (form < 8) × (number < 16384) ⌝ }
+    ensures { λ r. ⌜ (size ≤ 8192 → Puts (now (out .entry)) at (headerOctets (identifier form number) size) (now (out .exit)) r) ⌝ }
+{
+    match write::put_header(out, at, form, number, size) {
+        Written::Next(next) => next,
+        Written::Refused(_, _) => at,
+    }
+}
+
+fn put_integer(out: &mut [u8], at: usize, x: u64) -> usize
+    ensures { λ r. ⌜ Puts (now (out .entry)) at (integerElement x) (now (out .exit)) r ⌝ }
+{
+    match write::put_integer(out, at, x) {
+        Written::Next(next) => next,
+        Written::Refused(_, _) => at,
+    }
+}
+
+// An INTEGER, with the identifier of an ENUMERATED.
+fn put_enumerated(out: &mut [u8], at: usize, x: u32) -> usize
+    ensures { λ r. ⌜ Puts (now (out .entry)) at (enumeratedElement x) (now (out .exit)) r ⌝ }
+{
+    let next = put_integer(out, at, x as u64);
+    if out.len() <= at {
+        return at;
+    }
+    out[at] = 10;
+    next
+}
+
+fn put_octet(out: &mut [u8], at: usize, b: u8) -> usize
+    ensures { λ r. ⌜ Puts (now (out .entry)) at (b ∷ []) (now (out .exit)) r ⌝ }
+{
+    if out.len() <= at {
+        return at;
+    }
+    out[at] = b;
+    at + 1
+}
+
+// "BOOLEAN is 00 or FF".
+fn put_boolean(out: &mut [u8], at: usize, b: bool) -> usize
+    ensures { λ r. ⌜ Puts (now (out .entry)) at (booleanElement b) (now (out .exit)) r ⌝ }
+{
+    let next = put_header(out, at, 0, 1, 1);
+    if b {
+        return put_octet(out, next, 0xff);
+    }
+    put_octet(out, next, 0)
+}
+
+// All of t.
+fn put_bytes(out: &mut [u8], at: usize, t: &[u8]) -> usize
+    ensures { λ r. ⌜ Puts (now (out .entry)) at (now (t .entry)) (now (out .exit)) r ⌝ }
+{
+    let n = t.len();
+    if out.len() < at {
+        return at;
+    }
+    if out.len() - at < n {
+        return at;
+    }
+    let mut i: usize = 0;
+    while i < n {
+        out[at + i] = t[i];
+        i += 1;
+    }
+    at + n
+}
+
+// The OCTET STRING of a part.
+fn put_part(out: &mut [u8], at: usize, s: &[u8], p: Part) -> usize
+    ensures { λ r. ⌜ Puts (now (out .entry)) at (octetsElement (partOf (now (s .entry)) p)) (now (out .exit)) r ⌝ }
+{
+    let t = octets_of(s, p);
+    let next = put_header(out, at, 0, 4, t.len());
+    put_bytes(out, next, t)
+}
+
+// The members of a set, as many as its count and its slots allow.
+fn put_members(out: &mut [u8], at: usize, g: NumberSet) -> usize
+    ensures { λ r. ⌜ Puts (now (out .entry)) at (chainOctets integerElement (membersOf g)) (now (out .exit)) r ⌝ }
+{
+    let members = g.members;
+    let count = g.count;
+    let mut p = at;
+    let mut i: usize = 0;
+    while i < 16 {
+        if count <= i {
+            return p;
+        }
+        p = put_integer(out, p, members[i] as u64);
+        i += 1;
+    }
+    p
+}
+
+// SET OF INTEGER, also where it is empty.
+fn put_set(out: &mut [u8], at: usize, g: NumberSet) -> usize
+    ensures { λ r. ⌜ Puts (now (out .entry)) at (valueElement (nums (membersOf g))) (now (out .exit)) r ⌝ }
+{
+    let size = members_size(g);
+    let next = put_header(out, at, 1, 17, size);
+    put_members(out, next, g)
+}
+
+// What RootOfTrust's SEQUENCE holds: key, locked, state and, where there is one, hash.
+fn put_root_content(out: &mut [u8], at: usize, s: &[u8], t: RootOfTrust) -> usize
+    ensures { λ r. ⌜ Puts (now (out .entry)) at (rootContent (rootOf (now (s .entry)) t)) (now (out .exit)) r ⌝ }
+{
+    let p = put_part(out, at, s, t.key);
+    let q = put_boolean(out, p, t.locked);
+    let e = put_enumerated(out, q, t.state);
+    if t.hashed {
+        return put_part(out, e, s, t.hash);
+    }
+    e
+}
+
+fn put_root(out: &mut [u8], at: usize, s: &[u8], t: RootOfTrust) -> usize
+    ensures { λ r. ⌜ Puts (now (out .entry)) at (valueElement (trust (rootOf (now (s .entry)) t))) (now (out .exit)) r ⌝ }
+{
+    let size = root_size(s, t);
+    let next = put_header(out, at, 1, 16, size);
+    put_root_content(out, next, s, t)
+}
+
+// The value of a row of a list, by its kind.
+fn put_value(out: &mut [u8], at: usize, s: &[u8], l: FieldList, place: usize, row: Row) -> usize
+    requires { ⌜ place < 42 ⌝ }
+    ensures { λ r. ⌜ Puts (now (out .entry)) at (valueElement (valueAt l (now (s .entry)) (row .number) (ofKind (row .kind)) place)) (now (out .exit)) r ⌝ }
+{
+    let kind = row.kind;
+    match kind {
+        Kind::Set => put_set(out, at, set_at(l, row.number)),
+        Kind::Number32 => put_integer(out, at, l.values[place]),
+        Kind::Number64 => put_integer(out, at, l.values[place]),
+        Kind::Null => put_header(out, at, 0, 5, 0),
+        Kind::Octets => put_part(
+            out,
+            at,
+            s,
+            Part {
+                start: l.values[place] as usize,
+                len: l.sizes[place] as usize,
+            },
+        ),
+        Kind::Root => put_root(out, at, s, l.root),
+    }
+}
+
+// The field of a row: its context tag around its value.
+fn put_field(out: &mut [u8], at: usize, s: &[u8], l: FieldList, place: usize) -> usize
+    requires { ⌜ place < 42 ⌝ }
+    ensures { λ r. ⌜ Puts (now (out .entry)) at (fieldElement (fieldOf l (now (s .entry)) place)) (now (out .exit)) r ⌝ }
+{
+    let row = schema::row_at(place);
+    let size = value_size(s, l, place, row);
+    let next = put_header(out, at, 5, row.number, size);
+    put_value(out, next, s, l, place, row)
+}
+
+// The present fields of a list.
+fn put_fields(out: &mut [u8], at: usize, s: &[u8], l: FieldList) -> usize
+    ensures { λ r. ⌜ Puts (now (out .entry)) at (chainOctets fieldElement (fieldsOf l (now (s .entry)))) (now (out .exit)) r ⌝ }
+{
+    let mut p = at;
+    let mut place: usize = 0;
+    while place < 42 {
+        if l.present[place] {
+            p = put_field(out, p, s, l, place);
+            place += 1;
+        } else {
+            place += 1;
+        }
+    }
+    p
+}
+
+// A list: its present fields, of which there are size octets.
+fn put_list(out: &mut [u8], at: usize, s: &[u8], l: FieldList, size: usize) -> usize
+    requires { ⌜ Sized (chainOctets fieldElement (fieldsOf l (now s))) size ⌝ }
+    ensures { λ r. ⌜ Puts (now (out .entry)) at (listElement (fieldsOf l (now (s .entry)))) (now (out .exit)) r ⌝ }
+{
+    let next = put_header(out, at, 1, 16, size);
+    put_fields(out, next, s, l)
+}
+
+// A version and its level.
+fn put_security(out: &mut [u8], at: usize, v: Security) -> usize
+    ensures { λ r. ⌜ Puts (now (out .entry)) at (securityOctets (v .version) (v .level)) (now (out .exit)) r ⌝ }
+{
+    let next = put_integer(out, at, v.version as u64);
+    put_enumerated(out, next, v.level)
+}
+
+// The six elements before the lists.
+fn put_head(
+    out: &mut [u8],
+    at: usize,
+    s: &[u8],
+    attestation: Security,
+    keymint: Security,
+    challenge: Part,
+    unique: Part,
+) -> usize
+    ensures { λ r. ⌜ Puts (now (out .entry)) at (headOctets (securityOctets (attestation .version) (attestation .level)) (securityOctets (keymint .version) (keymint .level)) (partOf (now (s .entry)) challenge) (partOf (now (s .entry)) unique)) (now (out .exit)) r ⌝ }
+{
+    let p = put_security(out, at, attestation);
+    let q = put_security(out, p, keymint);
+    let e = put_part(out, q, s, challenge);
+    put_part(out, e, s, unique)
+}
+
+// The whole encoding, at the front of the output, by the sizes that were found.
+pub(crate) fn put_extension(out: &mut [u8], s: &[u8], r: Record, z: Sizes) -> usize
+    requires { ⌜ Measured r (now s) z ⌝ }
+    ensures { λ e. ⌜ Puts (now (out .entry)) 0 (encode (contentOf r (now (s .entry)))) (now (out .exit)) e ⌝ }
+{
+    let p = put_header(out, 0, 1, 16, z.eight);
+    let q = put_head(out, p, s, r.attestation, r.keymint, r.challenge, r.unique);
+    let e = put_list(out, q, s, r.software, z.software);
+    put_list(out, e, s, r.hardware, z.hardware)
+}
