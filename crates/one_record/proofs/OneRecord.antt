@@ -1,41 +1,181 @@
--- Document 01, demand 3, of any record and count that the reader may answer. Assumes nothing.
-use mathlib.Core.Logic.{_↔_}
-use mathlib.Core.Path.{_≡_, sym, ap, _∙_}
-use mathlib.Core.List.{List}
-use Prim.Native.Nat.{ℕ, _≤_}
-use lib.ListN.{length}
-use lib.Dec.{T}
-use Rattle.answer.specs.Answer.{got}
-use Rattle.answer.proofs.Answer.{got-inj}
-use Rattle.codec.specs.Octets.{Octets}
+-- The theorems of specs/Statements.antt. What is read was encoded and what is encoded is read back (schema Accepted); equal
+-- records are those of equal contents (records Equal); the rest cites the contracts. Assumes nothing.
+use mathlib.Core.Path.{_≡_, refl, sym, ap, subst, _∙_}
+use mathlib.Core.Bool.{Bool, true, false, _&&_}
+use mathlib.Core.List.{List, _++_}
+use Prim.Native.Nat.{ℕ, _≤_, _<_}
+use native.Mathlib.Omega.{arith}
+use native.Mathlib.Nat.{zero-add}
+use lib.ListN.{length, take, drop}
+use lib.Seq.{take-append-seam}
+use lib.Dec.{T, leb, leb→le, le→leb}
+use borrow.Author.Tests.{lt-leb}
+use Rattle.answer.specs.Answer.{Answer, got, refused, guard}
+use Rattle.answer.proofs.Answer.{got-inj, refused-got, guard-yes, guard-case}
+use Rattle.answer.proofs.Logic.{and-left, and-right, and-both}
+use Rattle.codec.specs.Octets.{Octets, splice, left}
+use Rattle.codec.proofs.Walks.{top}
 use Rattle.schema.specs.Content.{Content, encode}
 use Rattle.schema.specs.Count.{countOf}
 use Rattle.schema.specs.Decode.{read}
+use Rattle.schema.proofs.Accepted as accepted
 use Rattle.schema.proofs.Accepted.{read-encode, read-sound, read-injective}
+use Rattle.schema.proofs.Count.{encode-one, count-few}
+use Rattle.schema.proofs.Shape.{shaped-good}
 use Rattle.records.specs.Content.{contentOf}
 use Rattle.records.specs.Shape.{wellShapedRecord}
+use Rattle.records.specs.Parts.{partsInside}
 use Rattle.records.specs.Equal.{Equal}
 use Rattle.records.specs.declared.Record.{Record}
 use Rattle.records.proofs.Equal.{equal-content, content-equal}
 use Rattle.records.proofs.ShapedContent.{shaped-content}
-use Rattle.one_record.specs.Reads.{ReadsAs}
+use Rattle.reader.specs.declared.Outcome.{Outcome}
+use Rattle.reader.specs.Reading.{ofReading}
+use Rattle.writer.specs.declared.Written.{Written}
+use Rattle.writer.specs.Written.{encodingOf, writable, written, ofWritten}
+use Rattle.one_record.specs.Contracts.{Reads, ReadsAs, Writes}
+use Rattle.one_record.specs.Statements.{AcceptedExactly, EqualSameBytes, Encodable, EncodingAccepted, ReadsBackEqual, OnlyEncoding, EncodingSmall, WritesJustThat, RefusedUntouched, RefusesInOrder, WriteRefuses, WriteOfRead, ReadOfWrite}
 use Rattle.one_record.proofs.ContentOctets.{content-octets}
 
--- "accepted extensions read as equal records exactly when their bytes are the same"
-pub equal-same-bytes : (xs ys : List ℕ) (r r′ : Record) (n m : ℕ) → Octets xs → Octets ys → ReadsAs xs r n → ReadsAs ys r′ m → Equal r xs r′ ys ↔ (xs ≡ ys)
+-- ---- what is accepted
+
+pub accepted-exactly : AcceptedExactly
+accepted-exactly = accepted.accepted-exactly
+
+pub equal-same-bytes : EqualSameBytes
 equal-same-bytes xs ys r r′ n m o p h g =
-    let i = read-injective xs ys (contentOf r xs) (contentOf r′ ys) n m o p (sym h) (sym g) in
+    let i = read-injective xs ys (contentOf r xs) (contentOf r′ ys) n m o p (sym (h .is)) (sym (g .is)) in
     (λ e. i .0 (equal-content r xs r′ ys e), λ e. content-equal r xs r′ ys (i .1 e))
 
-module _ (r : Record) (s : List ℕ) (t : T (wellShapedRecord r)) (o : Octets s) (few : length (encode (contentOf r s)) ≤ 8192) where
-  -- "a well-shaped record has .. [an] encoding, it is accepted"
-  pub encoding-accepted : read (encode (contentOf r s)) ≡ got (contentOf r s, countOf (contentOf r s))
-  encoding-accepted = read-encode (contentOf r s) (shaped-content r s t) (content-octets r s o) few
+-- ---- one encoding
 
-  -- "and reads back equal"
-  pub reads-back-equal : (r′ : Record) (n : ℕ) → ReadsAs (encode (contentOf r s)) r′ n → Equal r s r′ (encode (contentOf r s))
-  reads-back-equal r′ n h = content-equal r s r′ (encode (contentOf r s)) (sym (ap (λ (x : Content × ℕ). x .0) (got-inj (h ∙ encoding-accepted))))
+-- two answers that stand for the same, where one accepts
+outcome-is : (s : List ℕ) (o : Outcome) (r : Record) (c : Content) (n : ℕ) → ofReading s o r ≡ got (c, n) → (o ≡ Outcome.Accepted n) × (contentOf r s ≡ c)
+outcome-is s (Outcome.Accepted k) r c n e =
+    let q = got-inj e in
+    (ap Outcome.Accepted (ap (λ (x : Content × ℕ). x .1) q), ap (λ (x : Content × ℕ). x .0) q)
+outcome-is s (Outcome.Refused k p) r c n e = absurd (refused-got e)
 
--- "exactly one": what is accepted and reads as an equal record is that encoding
-pub only-encoding : (r r′ : Record) (s bs : List ℕ) (n : ℕ) → Octets bs → ReadsAs bs r′ n → Equal r s r′ bs → bs ≡ encode (contentOf r s)
-only-encoding r r′ s bs n o h e = sym (read-sound bs (contentOf r′ bs) n o (sym h) .2) ∙ ap encode (sym (equal-content r s r′ bs e))
+module _ (r : Record) (s : List ℕ) (h : Encodable r s) where
+  back : read (encodingOf r s) ≡ got (contentOf r s, countOf (contentOf r s))
+  back = read-encode (contentOf r s) (shaped-content r s (h .shaped)) (content-octets r s (h .octets)) (h .short)
+
+  answers : (o : Outcome) (r′ : Record) → Reads (encodingOf r s) o r′ → (o ≡ Outcome.Accepted (countOf (contentOf r s))) × (contentOf r′ (encodingOf r s) ≡ contentOf r s)
+  answers o r′ g = outcome-is (encodingOf r s) o r′ (contentOf r s) (countOf (contentOf r s)) (g .is ∙ back)
+
+pub encoding-accepted : EncodingAccepted
+encoding-accepted r s h o r′ g = answers r s h o r′ g .0
+
+pub reads-back-equal : ReadsBackEqual
+reads-back-equal r s h o r′ g = content-equal r s r′ (encodingOf r s) (sym (answers r s h o r′ g .1))
+
+pub only-encoding : OnlyEncoding
+only-encoding r s h bs r′ n o g e = sym (read-sound bs (contentOf r′ bs) n o (sym (g .is)) .2) ∙ ap encode (sym (equal-content r s r′ bs e))
+
+pub encoding-small : EncodingSmall
+encoding-small r s h =
+    let c = contentOf r s in
+    let t = shaped-content r s (h .shaped) in
+    top 8192 5 313 (encode-one 0 c (shaped-good c t (content-octets r s (h .octets)) (h .short))) (count-few c t) (h .short)
+
+-- ---- the writer
+
+wrote-is : (w : Written) (n : ℕ) → ofWritten w ≡ got n → w ≡ Written.Wrote n
+wrote-is (Written.Wrote k) n e = ap Written.Wrote (got-inj e)
+wrote-is (Written.Refused k p) n e = absurd (refused-got e)
+
+abbrev number-of : Answer ℕ → ℕ
+number-of (got a) = 0
+number-of (refused k p) = k
+
+abbrev place-of : Answer ℕ → ℕ
+place-of (got a) = 0
+place-of (refused k p) = p
+
+refused-is : (w : Written) (k p : ℕ) → ofWritten w ≡ refused k p → w ≡ Written.Refused k p
+refused-is (Written.Wrote n) k p e = absurd (refused-got (sym e))
+refused-is (Written.Refused j q) k p e =
+    let a : j ≡ k = ap number-of e in
+    let b : q ≡ p = ap place-of e in
+    rw (a, b) refl
+
+module _ (r : Record) (s out : List ℕ) where
+  shaped : T (wellShapedRecord r) → T (partsInside r (length s)) → T (writable r s)
+  shaped t i = and-both (wellShapedRecord r) _ t i
+
+  fits : T (wellShapedRecord r) → T (partsInside r (length s)) → length (encodingOf r s) ≤ 8192 → length (encodingOf r s) ≤ length out → written r s out ≡ got (length (encodingOf r s))
+  unfolding written
+  fits t i a b =
+      guard-yes (writable r s) 20 0 _ (shaped t i)
+      ∙ guard-yes (leb (length (encodingOf r s)) 8192) 22 0 _ (le→leb (length (encodingOf r s)) 8192 a)
+      ∙ guard-yes (leb (length (encodingOf r s)) (length out)) 21 0 _ (le→leb (length (encodingOf r s)) (length out) b)
+
+  not-writable : (T (writable r s) → ⊥) → written r s out ≡ refused 20 0
+  unfolding written guard
+  not-writable f = go (writable r s) f
+    where
+      go : (b : Bool) → (T b → ⊥) → guard b 20 0 (guard (leb (length (encodingOf r s)) 8192) 22 0 (guard (leb (length (encodingOf r s)) (length out)) 21 0 (got (length (encodingOf r s))))) ≡ refused 20 0
+      go true f = absurd (f tt)
+      go false f = refl
+
+  too-long : T (wellShapedRecord r) → T (partsInside r (length s)) → 8192 < length (encodingOf r s) → written r s out ≡ refused 22 0
+  unfolding written guard
+  too-long t i a = guard-yes (writable r s) 20 0 _ (shaped t i) ∙ rw (lt-leb (length (encodingOf r s)) 8192 a) refl
+
+  too-narrow : T (wellShapedRecord r) → T (partsInside r (length s)) → length (encodingOf r s) ≤ 8192 → length out < length (encodingOf r s) → written r s out ≡ refused 21 0
+  unfolding written guard
+  too-narrow t i a b =
+      guard-yes (writable r s) 20 0 _ (shaped t i)
+      ∙ guard-yes (leb (length (encodingOf r s)) 8192) 22 0 _ (le→leb (length (encodingOf r s)) 8192 a)
+      ∙ rw (lt-leb (length (encodingOf r s)) (length out) b) refl
+
+-- octets put at the front
+front : (out xs : List ℕ) → splice out 0 xs ≡ xs ++ drop (length xs) out
+unfolding splice
+front out xs = rw zero-add refl
+
+pub writes-just-that : WritesJustThat
+writes-just-that r s out after w h l g =
+    let e = fits r s out (h .shaped) (h .inside) (h .short) l in
+    (wrote-is w (length (encodingOf r s)) (g .answer ∙ e), g .output ∙ ap (λ (a : Answer ℕ). left a out 0 (encodingOf r s)) e ∙ front out (encodingOf r s))
+
+pub refused-untouched : RefusedUntouched
+refused-untouched r s out after k p g = g .output ∙ ap (λ (a : Answer ℕ). left a out 0 (encodingOf r s)) (sym (g .answer))
+
+pub write-refuses : WriteRefuses
+write-refuses r s out after w g = record {
+  unshaped = λ f. refused-is w 20 0 (g .answer ∙ not-writable r s out (λ t. f (and-left (wellShapedRecord r) _ t)));
+  outside = λ f. refused-is w 20 0 (g .answer ∙ not-writable r s out (λ t. f (and-right (wellShapedRecord r) _ t)));
+  long = λ t i a. refused-is w 22 0 (g .answer ∙ too-long r s out t i a);
+  narrow = λ t i a b. refused-is w 21 0 (g .answer ∙ too-narrow r s out t i a b);
+}
+
+-- ---- both
+
+-- the record of an accepted extension is encodable, and its encoding is the extension
+pub read-encodable : (b : List ℕ) (r : Record) (n : ℕ) → Octets b → ReadsAs b r n → Encodable r b × (encodingOf r b ≡ b)
+read-encodable b r n o g =
+    let s = read-sound b (contentOf r b) n o (sym (g .is)) in
+    (record { shaped = g .sound .0; inside = g .sound .1; octets = o; short = rw (s .2) (s .3) }, s .2)
+
+pub write-of-read : WriteOfRead
+write-of-read b out after r n w o l g k =
+    let p = read-encodable b r n o g in
+    let j = writes-just-that r b out after w (p .0) (rw (p .1) l) k in
+    rw (p .1) at j
+
+-- what a write that succeeds took
+pub wrote-encodable : (r : Record) (s out after : List ℕ) (k : ℕ) → Octets s → Writes r s out (Written.Wrote k) after → Encodable r s × (length (encodingOf r s) ≤ length out) × (k ≡ length (encodingOf r s))
+unfolding written
+wrote-encodable r s out after k o g =
+    guard-case (writable r s) 20 0 _ (sym (g .answer)) λ t e₁.
+    guard-case (leb (length (encodingOf r s)) 8192) 22 0 _ e₁ λ a e₂.
+    guard-case (leb (length (encodingOf r s)) (length out)) 21 0 _ e₂ λ b e₃.
+    (record { shaped = and-left (wellShapedRecord r) _ t; inside = and-right (wellShapedRecord r) _ t; octets = o; short = leb→le (length (encodingOf r s)) 8192 a }, leb→le (length (encodingOf r s)) (length out) b, sym (got-inj e₃))
+
+pub read-of-write : ReadOfWrite
+read-of-write r r′ s out after k o q g i =
+    let p = wrote-encodable r s out after k q g in
+    let j = writes-just-that r s out after (Written.Wrote k) (p .0) (p .1) g in
+    let e : take k after ≡ encodingOf r s = rw (j .1, p .2) (take-append-seam (encodingOf r s) (drop (length (encodingOf r s)) out)) in
+    rw e (encoding-accepted r s (p .0) o r′ (rw e at i), reads-back-equal r s (p .0) o r′ (rw e at i))

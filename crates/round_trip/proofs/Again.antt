@@ -1,0 +1,87 @@
+-- The reader and the writer one after the other, from their contracts and the theorems of one_record. Assumes nothing.
+use mathlib.Core.Path.{_≡_, refl, sym, ap, subst, _∙_}
+use mathlib.Core.List.{List}
+use Prim.Native.Nat.{ℕ, _≤_}
+use native.Mathlib.Omega.{arith}
+use mir.Val.{Fits}
+use mir.Syntax.{w8}
+use lib.ListN.{length, getD, take}
+use lib.Seq.{length-take-le}
+use lib.Dec.{leb, le→leb}
+use Rattle.answer.specs.Answer.{Answer, got, refused, guard, bind}
+use Rattle.answer.proofs.Answer.{guard-yes}
+use Rattle.answer.proofs.Logic.{and-both}
+use Rattle.codec.specs.Octets.{left}
+use Rattle.codec.proofs.Splice.{length-splice}
+use Rattle.schema.specs.Decode.{read}
+use Rattle.schema.specs.Count.{countOf}
+use Rattle.records.specs.Content.{contentOf}
+use Rattle.records.specs.Shape.{wellShapedRecord}
+use Rattle.records.specs.Equal.{Equal}
+use Rattle.records.specs.declared.Record.{Record}
+use Rattle.reader.specs.declared.Outcome.{Outcome}
+use Rattle.reader.specs.Reading.{ofReading, RefusedEmpty, AcceptedSound}
+use Rattle.reader.proofs.Spelled.{octets-all}
+use Rattle.writer.specs.declared.Written.{Written}
+use Rattle.writer.specs.Written.{encodingOf, writable, ofWritten, written, leftBy}
+use Rattle.one_record.specs.Contracts.{Reads, Writes}
+use Rattle.one_record.proofs.OneRecord.{read-encodable, wrote-encodable, read-of-write}
+use Rattle.round_trip.specs.Again.{writtenAgain, ReadAgain}
+
+-- ---- write(read(s)) is s
+
+module _ (s out : List ℕ) (o : Outcome) (r : Record) (is : ofReading s o r ≡ read s) where
+  module _ (k p : ℕ) (w : o ≡ Outcome.Refused k p) where
+    refusal : writtenAgain s out ≡ refused k p
+    unfolding writtenAgain bind
+    refusal = rw (← is, w) refl
+
+    pub refused-again : refused k p ≡ writtenAgain s out
+    refused-again = sym refusal
+
+    pub untouched-again : out ≡ left (writtenAgain s out) out 0 s
+    untouched-again = rw refusal refl
+
+  module _ (f : (k : ℕ) → Fits w8 (getD s k 0)) (empty : RefusedEmpty o r) (sound : AcceptedSound (length s) o r) (n : ℕ) (w : o ≡ Outcome.Accepted n) where
+    reads : Reads s (Outcome.Accepted n) r
+    reads = subst (λ (x : Outcome). Reads s x r) w (record { is = is; empty = empty; sound = sound })
+
+    same : encodingOf r s ≡ s
+    same = read-encodable s r n (octets-all s f) reads .1
+
+    again : written r s out ≡ writtenAgain s out
+    unfolding written writtenAgain bind
+    again =
+        let h = read-encodable s r n (octets-all s f) reads .0 in
+        guard-yes (writable r s) 20 0 _ (and-both (wellShapedRecord r) _ (h .shaped) (h .inside))
+        ∙ guard-yes (leb (length (encodingOf r s)) 8192) 22 0 _ (le→leb (length (encodingOf r s)) 8192 (h .short))
+        ∙ rw (same, ← is, w) refl
+
+    pub wrote-again : (v : Written) → ofWritten v ≡ written r s out → ofWritten v ≡ writtenAgain s out
+    wrote-again v e = e ∙ again
+
+    pub left-again : (after : List ℕ) → after ≡ leftBy r s out → after ≡ left (writtenAgain s out) out 0 s
+    left-again after e = e ∙ rw (again, same) refl
+
+-- ---- read(write(r)) equals r
+
+module _ (r : Record) (s out after : List ℕ) (v : Written) (answer : ofWritten v ≡ written r s out) (output : after ≡ leftBy r s out) where
+  pub write-refused : (k p : ℕ) → v ≡ Written.Refused k p → ReadAgain r s (written r s out) after (Outcome.Refused k p) r
+  write-refused k p w = rw (← answer, w) (refl, refl)
+
+  module _ (f : (k : ℕ) → Fits w8 (getD s k 0)) (n : ℕ) (w : v ≡ Written.Wrote n) where
+    writes : Writes r s out (Written.Wrote n) after
+    writes = subst (λ (x : Written). Writes r s out x after) w (record { answer = answer; output = output })
+
+    pub wrote-fits : n ≤ length after
+    wrote-fits =
+        let p = wrote-encodable r s out after n (octets-all s f) writes in
+        let e : written r s out ≡ got n = sym (rw w at answer) in
+        let q : after ≡ left (got n) out 0 (encodingOf r s) = output ∙ ap (λ (a : Answer ℕ). left a out 0 (encodingOf r s)) e in
+        rw (q, length-splice out 0 (encodingOf r s) (omega (arith, p .1))) (omega (arith, p .1, p .2))
+
+    pub wrote-whole : n ≡ length (take n after)
+    wrote-whole = sym (length-take-le n after wrote-fits)
+
+    pub read-back : (o : Outcome) (g : Record) → ofReading (take n after) o g ≡ read (take n after) → RefusedEmpty o g → AcceptedSound (length (take n after)) o g → ReadAgain r s (written r s out) after o g
+    read-back o g is empty sound = rw (← answer, w) (read-of-write r g s out after n o (octets-all s f) writes (record { is = is; empty = empty; sound = sound }))
