@@ -3,6 +3,7 @@ pub mod Fields
 pub mod Buffer
 pub mod Asking
 pub mod OctetFields
+pub mod PartOctets
 pub mod Shapes
 pub mod ShapedContent
 pub mod ContentShaped

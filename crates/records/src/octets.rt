@@ -1,5 +1,6 @@
 // Octet fields of a record, by list and number, as parts of the caller's extension.
 use crate::FieldList;
+use crate::Part;
 use crate::Record;
 use crate::parts::inside;
 use answer::ILL_SHAPED;
@@ -7,6 +8,7 @@ use schema::Kind;
 ghost use mathlib.Core.Path.{_≡_};
 ghost use mathlib.Core.Bool.{true};
 ghost use Rattle.schema.specs.Table.{octets, rows, indexOf};
+ghost use Rattle.records.specs.Content.{octetsAt, partOf};
 ghost use Rattle.records.specs.Asked.{listOf, askedOf, askedAt, askedOctets, octetFieldOf, ofAsked};
 
 // What asking for an octet field answers: its part's start and length; that there is none; or a refusal with its place.
@@ -78,4 +80,26 @@ pub fn octet_field(s: &[u8], r: Record, hardware: bool, number: usize) -> &[u8]
         }
         _ => &s[0..0],
     }
+}
+
+// len octets of s from start on, as many as there are: what lies outside s is left out.
+fn octets_at(s: &[u8], start: usize, len: usize) -> &[u8]
+    ensures { λ t. ⌜ now t ≡ octetsAt (now (s .entry)) start len ⌝ }
+{
+    let n = s.len();
+    if n <= start {
+        return &s[n..n];
+    }
+    if n - start <= len {
+        return &s[start..n];
+    }
+    let end = start + len;
+    &s[start..end]
+}
+
+// The octets of a part, as the very bytes of the buffer; what lies outside it is left out.
+pub fn part_octets(s: &[u8], p: Part) -> &[u8]
+    ensures { λ t. ⌜ now t ≡ partOf (now (s .entry)) p ⌝ }
+{
+    octets_at(s, p.start, p.len)
 }
