@@ -1,0 +1,25 @@
+-- `ruling::checks::fresh_refused` meets its contract: the tests of `freshRefused` in turn. Assumes nothing.
+use Rattle.ruling.proofs.Checking.{fresh-unasked, fresh-timed, fresh-bound}
+use borrow.Author.Needs.{needs}
+use Rattle.ruling.proofs.checks.fresh_refused.Statement.{statement}
+use Rattle.ruling.proofs.checks.fresh_refused.Tie as tie
+
+returns : tie.Need-returns
+returns c = search fresh-unasked
+
+timeout-allows-requires : tie.Need-timeout-allows-requires
+timeout-allows-requires c κs = search needs
+
+timeout-allows-requires-2 : tie.Need-timeout-allows-requires-2
+timeout-allows-requires-2 c κs = search needs
+
+returns-2 : tie.Need-returns-2
+returns-2 c = search fresh-timed
+
+returns-3 : tie.Need-returns-3
+returns-3 c = search fresh-bound
+
+pub fresh-refused-spec : {M : Type 1} → statement M
+fresh-refused-spec =
+    tie.close
+    (tie.spec returns timeout-allows-requires timeout-allows-requires-2 returns-2 returns-3)

@@ -1,0 +1,12 @@
+-- `ruling::checks::known_purpose` meets its contract: the test of its definition. Assumes nothing.
+use mathlib.Core.Path.{refl}
+use Rattle.ruling.specs.Checks.{knownPurpose}
+use Rattle.ruling.proofs.checks.known_purpose.Statement.{statement}
+use Rattle.ruling.proofs.checks.known_purpose.Tie as tie
+
+returns : tie.Need-returns
+unfolding knownPurpose
+returns c = refl
+
+pub known-purpose-spec : {M : Type 1} → statement M
+known-purpose-spec = tie.close (tie.spec returns)

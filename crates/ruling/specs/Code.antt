@@ -1,0 +1,35 @@
+-- What the code's values stand for.
+use mathlib.Core.Option.{Option}
+use mathlib.Core.List.{List}
+use Prim.Native.Nat.{ℕ}
+use Rattle.records.specs.Content.{membersOf}
+use Rattle.ruling.specs.Rules.{Rules, given}
+use Rattle.ruling.specs.declared.rules.NumberTag.{NumberTag}
+use Rattle.ruling.specs.declared.rules.SetTag.{SetTag}
+use Rattle.ruling.specs.declared.rules.Rules as code
+
+abbrev pub ofNumberTag : NumberTag → Option ℕ
+ofNumberTag t = given (t .there) (t .value)
+
+abbrev pub ofSetTag : SetTag → Option (List ℕ)
+ofSetTag t = given (t .there) (membersOf (t .set))
+
+abbrev pub ofRules : code.Rules → Rules
+ofRules r = record {
+  purpose = ofSetTag (r .purpose);
+  algorithm = ofNumberTag (r .algorithm);
+  padding = ofSetTag (r .padding);
+  digest = ofSetTag (r .digest);
+  keySize = ofNumberTag (r .size);
+  active = ofNumberTag (r .active);
+  origination = ofNumberTag (r .origination);
+  usage = ofNumberTag (r .usage);
+  authType = ofNumberTag (r .auth);
+  authTimeout = ofNumberTag (r .timeout);
+  unlocked = r .unlocked;
+  presence = r .presence;
+  confirmation = r .confirmation;
+  earlyBoot = r .early;
+  useLimit = ofNumberTag (r .limit);
+  noAuth = r .noauth;
+}

@@ -1,0 +1,4 @@
+pub mod Rules
+pub mod Checks
+pub mod Ruling
+pub mod Code
