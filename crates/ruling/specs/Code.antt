@@ -2,8 +2,12 @@
 use mathlib.Core.Option.{Option}
 use mathlib.Core.List.{List}
 use Prim.Native.Nat.{ℕ}
+use Rattle.answer.specs.Answer.{Answer, got, refused}
 use Rattle.records.specs.Content.{membersOf}
 use Rattle.ruling.specs.Rules.{Rules, given}
+use Rattle.ruling.specs.Ruling.{Permit}
+use Rattle.ruling.specs.declared.Ruling.{Ruling}
+use Rattle.ruling.specs.declared.Ruling.the-variants as variant
 use Rattle.ruling.specs.declared.rules.NumberTag.{NumberTag}
 use Rattle.ruling.specs.declared.rules.SetTag.{SetTag}
 use Rattle.ruling.specs.declared.rules.Rules as code
@@ -33,3 +37,7 @@ ofRules r = record {
   useLimit = ofNumberTag (r .limit);
   noAuth = r .noauth;
 }
+
+abbrev pub ofRuling : Ruling → Answer Permit
+ofRuling (variant.Permit hardware hardwareBits software softwareBits) = got (record { hardware = hardware; hardwareBits = hardwareBits; software = software; softwareBits = softwareBits })
+ofRuling (variant.Refused number place) = refused number place
