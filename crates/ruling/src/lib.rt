@@ -1,8 +1,16 @@
 // The use ruling (document 01, "The use ruling"): whether a key may be put to a use, by the rules of both its lists.
 pub mod checks;
 pub mod marks;
+pub mod order;
 pub mod request;
 pub mod rules;
+
+use answer::ILL_SHAPED;
+use records::Record;
+use request::Request;
+ghost use mathlib.Core.Path.{_≡_};
+ghost use Rattle.ruling.specs.Ruling.{ruled, ruling, lookedAt};
+ghost use Rattle.ruling.specs.Code.{ofRules, ofRuling};
 
 // A permit with its marks and how many bits are set in each; or a refusal with its place, which is 0.
 pub enum Ruling {
@@ -13,4 +21,54 @@ pub enum Ruling {
         software_bits: u32,
     },
     Refused(u8, usize),
+}
+
+// Which of the sixteen tags are looked at.
+fn looked_at(s: rules::Rules, h: rules::Rules, q: Request) -> [bool; 16]
+    ensures { λ l. ⌜ l ≡ lookedAt (ofRules s) (ofRules h) q ⌝ }
+{
+    let sa = s.algorithm;
+    let ha = h.algorithm;
+    let st = s.auth;
+    let ht = h.auth;
+    marks::looked(
+        q.purpose,
+        checks::agreed(sa, ha),
+        q.padding,
+        st.there | ht.there,
+    )
+}
+
+// The ruling by the rules of both lists.
+fn ruled(level: u32, keymint: u32, s: rules::Rules, h: rules::Rules, q: Request) -> Ruling
+    ensures { λ a. ⌜ ofRuling a ≡ ruled level keymint (ofRules s) (ofRules h) q ⌝ }
+{
+    let number = order::first_refusal(s, h, q);
+    if number != 0 {
+        return Ruling::Refused(number, 0);
+    }
+    let asked = looked_at(s, h, q);
+    let hardware = marks::mark_of(marks::held(h), asked);
+    let software = marks::mark_of(marks::held(s), asked);
+    marks::permit(level, keymint, hardware, software)
+}
+
+// Whether, and by which rules, a key of this record may be put to this use; a record that is not well-shaped gives 20.
+pub fn rule(r: Record, q: Request) -> Ruling
+    ensures { λ a. ⌜ ofRuling a ≡ ruling r q ⌝ }
+{
+    if !records::shape::well_shaped(r) {
+        return Ruling::Refused(ILL_SHAPED, 0);
+    }
+    let attestation = r.attestation;
+    let keymint = r.keymint;
+    let software = r.software;
+    let hardware = r.hardware;
+    ruled(
+        attestation.level,
+        keymint.level,
+        rules::rules_of(software),
+        rules::rules_of(hardware),
+        q,
+    )
 }
