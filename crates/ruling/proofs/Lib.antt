@@ -3,3 +3,7 @@ pub mod Checking
 pub mod Bits
 pub mod First
 pub mod Answers
+pub mod Means
+pub mod CheckMeanings
+pub mod Shaping
+pub mod Permitted

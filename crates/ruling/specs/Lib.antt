@@ -2,3 +2,4 @@ pub mod Rules
 pub mod Checks
 pub mod Ruling
 pub mod Code
+pub mod Allowed
