@@ -1,8 +1,8 @@
 -- What each check asks, in plain words: it does not refuse exactly where its rule holds. Assumes nothing.
 use mathlib.Core.Path.{_≡_, refl, sym, _∙_}
-use mathlib.Core.Logic.{_⊎_, inl, inr, ⊎-elim}
-use mathlib.Core.Bool.{Bool, true, false, not, _&&_, _||_, true≢false}
-use mathlib.Core.Option.{Option, none, some}
+use mathlib.Core.Logic.{_⊎_, inl, inr}
+use mathlib.Core.Bool.{Bool, true, false, not, _&&_, true≢false}
+use mathlib.Core.Option.{Option}
 use mathlib.Core.List.{List}
 use Prim.Native.Nat.{ℕ, _+_, _*_, _-_, _<_, _≤_}
 use native.Mathlib.Omega.{arith}
@@ -10,10 +10,9 @@ use lib.Bits.{bitAnd}
 use lib.Dec.{T, eqb, leb, ltb}
 use Rattle.answer.specs.Answer.{pick}
 use Rattle.answer.proofs.Logic.{by-le}
-use Rattle.ruling.specs.Rules.{either, bothAllow}
-use Rattle.ruling.specs.Checks.{knownPurpose, purposeRefused, agreed, algorithmFits, paddingFits, paddingRefused, looksAtDigest, digestFits, digestRefused, digestBytes, keyBytes, keySizeRefused, signs, clockRefused, activeRefused, expiryRefused, authMissing, tokenRefused, recent, freshRefused, nullRefused, usesRefused}
+use Rattle.ruling.specs.Checks.{knownPurpose, purposeRefused, algorithmFits, paddingFits, paddingRefused, looksAtDigest, digestFits, digestRefused, digestBytes, keyBytes, keySizeRefused, signs, clockRefused, activeRefused, expiryRefused, authMissing, tokenRefused, recent, freshRefused, nullRefused, usesRefused}
 use Rattle.ruling.specs.Allowed.{Held, Each, InSets, Either, Signing, Deciphering}
-use Rattle.ruling.proofs.Means.{Means, equal, at-most, below, true-flag, false-flag, both, one-of, only-with, negated, twice, says, held, each, in-sets}
+use Rattle.ruling.proofs.Means.{Means, equal, at-most, below, true-flag, both, one-of, only-with, negated, twice, says, held, each, in-sets}
 
 itself : (b : Bool) → Means b (T b)
 itself b = record { to = λ t. t; from = λ t. t }

@@ -1,16 +1,16 @@
 -- The checks' answers that need an idea: the algorithm by cases of the flags, the key's size by whole octets, the token's
 -- age by whole seconds. Assumes nothing.
-use mathlib.Core.Path.{_≡_, refl, sym, _∙_}
+use mathlib.Core.Path.{_≡_, refl}
 use mathlib.Core.Bool.{Bool, true, false, not, _&&_, _||_}
 use mathlib.Core.Option.{Option}
-use Prim.Native.Nat.{ℕ, suc, _+_, _*_, _-_, _/_, _%_, _<_, _≤_}
+use Prim.Native.Nat.{ℕ, _+_, _*_, _-_, _/_, _%_, _<_, _≤_}
 use native.Mathlib.Nat.{div-add-mod', mod-lt}
 use native.Mathlib.Omega.{arith}
 use lib.Dec.{eqb, leb, ltb, lit<}
 use borrow.Author.Tests.{le-ltb, lt-ltb, le-leb, lt-leb, eq-eqb, ne-eqb, not-true, not-false}
 use Rattle.answer.specs.Answer.{pick}
 use Rattle.answer.proofs.Logic.{by-le}
-use Rattle.ruling.specs.Rules.{given, there, allows}
+use Rattle.ruling.specs.Rules.{given, allows}
 use Rattle.ruling.specs.Checks.{agreed, digestBytes, keyBytes, signs, expiry, recent, freshRefused}
 use Rattle.ruling.proofs.Tags.{there-given, allows-given}
 

@@ -4,7 +4,7 @@ use mathlib.Core.Bool.{Bool, true, false, not, _&&_}
 use mathlib.Core.List.{List, [], _∷_, _++_}
 use Prim.Native.Nat.{ℕ, _<_}
 use native.Mathlib.Omega.{arith}
-use lib.Dec.{T, ltb, eqb, ltb→lt}
+use lib.Dec.{T, ltb, ltb→lt}
 use Rattle.answer.specs.Answer.{pick}
 use Rattle.answer.proofs.Logic.{and-left, and-right}
 use Rattle.ruling.specs.Rules.{Rules}
@@ -29,7 +29,7 @@ none-left = refl
 -- ---- group by group
 
 -- no check has the number 0
-abbrev numbered : List Check → Bool
+abbrev pub numbered : List Check → Bool
 numbered [] = true
 numbered (c ∷ cs) = ltb 0 (c .0) && numbered cs
 
@@ -78,3 +78,44 @@ module _ (s h : Rules) (q : Request) where
 
         pub first-device : c ≡ 0 → (d : ℕ) → d ≡ firstRefusing (deviceChecks s h q) → d ≡ firstRefusing (checks s h q)
         first-device k d l = l ∙ first-later (tokenChecks s h q) (deviceChecks s h q) tokens (sym g ∙ k) ∙ past-date
+
+  pub all-numbered : T (numbered (checks s h q))
+  unfolding shapeChecks dateChecks tokenChecks deviceChecks
+  all-numbered = tt
+
+-- ---- what the first that refuses says of the list
+
+-- none of the checks refuses
+abbrev pub Clear : List Check → Type 0
+Clear [] = Unit {0}
+Clear (c ∷ cs) = T (not (c .1)) × Clear cs
+
+pub none-refuses : (cs : List Check) → T (numbered cs) → firstRefusing cs ≡ 0 → Clear cs
+unfolding firstRefusing pick
+none-refuses [] t e = tt
+none-refuses ((n, true) ∷ cs) t e = let h : 0 < n = ltb→lt 0 n (and-left (ltb 0 n) (numbered cs) t) in absurd (omega arith)
+none-refuses ((n, false) ∷ cs) t e = (tt, none-refuses cs (and-right (ltb 0 n) (numbered cs) t) e)
+
+pub clear-first : (cs : List Check) → Clear cs → firstRefusing cs ≡ 0
+unfolding firstRefusing pick
+clear-first [] k = refl
+clear-first ((n, true) ∷ cs) k = absurd (k .0)
+clear-first ((n, false) ∷ cs) k = clear-first cs (k .1)
+
+pub first-found : (cs : List Check) → (firstRefusing cs ≡ 0 → ⊥) → (earlier : List Check) × (later : List Check) × (cs ≡ earlier ++ ((firstRefusing cs, true) ∷ later)) × Clear earlier
+unfolding firstRefusing pick
+first-found [] n = absurd (n refl)
+first-found ((k, true) ∷ cs) n = ([], cs, refl, tt)
+first-found ((k, false) ∷ cs) n =
+    let w = first-found cs n in
+    ((k, false) ∷ w .0, w .1, ap (λ (l : List Check). (k, false) ∷ l) (w .2), (tt, w .3))
+
+pub first-at : (earlier : List Check) (n : ℕ) (later : List Check) → Clear earlier → firstRefusing (earlier ++ ((n, true) ∷ later)) ≡ n
+unfolding firstRefusing pick
+first-at [] n later k = refl
+first-at ((m, true) ∷ cs) n later k = absurd (k .0)
+first-at ((m, false) ∷ cs) n later k = first-at cs n later (k .1)
+
+pub numbered-at : (earlier : List Check) (n : ℕ) (later : List Check) → T (numbered (earlier ++ ((n, true) ∷ later))) → n ≡ 0 → ⊥
+numbered-at [] n later t e = let h : 0 < n = ltb→lt 0 n (and-left (ltb 0 n) (numbered later) t) in omega arith
+numbered-at (c ∷ cs) n later t e = numbered-at cs n later (and-right (ltb 0 (c .0)) (numbered (cs ++ ((n, true) ∷ later))) t) e

@@ -6,4 +6,7 @@ pub mod Answers
 pub mod Means
 pub mod CheckMeanings
 pub mod Shaping
+pub mod Rulewise
 pub mod Permitted
+pub mod Marked
+pub mod NothingElse

@@ -1,168 +1,86 @@
--- What a permit and a refusal mean. Assumes nothing.
-use mathlib.Core.Path.{_≡_, refl, sym, ap, _∙_}
-use mathlib.Core.Logic.{_⊎_, inl, inr, ⊎-elim, _↔_}
-use mathlib.Core.Bool.{Bool, true, false, not, _&&_, _||_}
-use mathlib.Core.Option.{Option, none, some}
-use mathlib.Core.List.{List, [], _∷_, _++_}
-use Prim.Native.Nat.{ℕ, _<_, _≤_}
-use native.Mathlib.Omega.{arith}
-use lib.Dec.{T, eqb, ltb}
+-- What a permit means, and what a refusal's number says. Assumes nothing.
+use mathlib.Core.Path.{_≡_, refl, sym, ap, subst, _∙_}
+use mathlib.Core.Logic.{_↔_}
+use mathlib.Core.Bool.{true, false}
+use mathlib.Core.List.{List, _∷_, _++_}
+use Prim.Native.Nat.{ℕ}
+use lib.Dec.{T, eqb}
 use borrow.Author.Tests.{eq-eqb, ne-eqb}
-use Rattle.answer.specs.Answer.{Answer, got, refused, guard, pick}
+use Rattle.answer.specs.Answer.{got, refused, guard, pick}
+use Rattle.answer.specs.Refusal.{illShaped}
+use Rattle.answer.proofs.Answer.{refused-got, got-inj, guard-case, pick-case}
+use Rattle.answer.proofs.Logic.{not-equal}
 use Rattle.records.specs.Shape.{wellShapedRecord}
 use Rattle.records.specs.declared.Record.{Record}
 use Rattle.ruling.specs.Rules.{Rules, rulesOf}
-use Rattle.ruling.specs.Checks.{agreed, signs, expiry, clockRefused, expiryRefused}
-use Rattle.ruling.specs.Ruling.{Check, firstRefusing, shapeChecks, dateChecks, tokenChecks, deviceChecks, checks, Permit, permitOf, lookedAt, markOf, held, unless, ruled, ruling}
-use Rattle.ruling.specs.Allowed.{Held, Each, Allowed, Signing, Deciphering}
+use Rattle.ruling.specs.Ruling.{Check, firstRefusing, checks, Permit, permitOf, lookedAt, markOf, held, unless, ruled, ruling}
+use Rattle.ruling.specs.Allowed.{Allowed}
 use Rattle.ruling.specs.declared.request.Request.{Request}
-use Rattle.ruling.proofs.Means.{Means}
-use Rattle.ruling.proofs.CheckMeanings.{Known, Fits, means-30, means-31, means-32, means-33, means-34, means-35, means-36, means-37, means-38, signing, deciphering, means-39, means-40, Recent, means-41, means-forbids, means-wants, means-46}
-use Rattle.ruling.proofs.Shaping.{agreed-says, agreed-is, shape-of, shape-known, shape-fits, shape-padding, shape-digest, known-side}
+use Rattle.ruling.proofs.First.{Clear, numbered, all-numbered, none-refuses, clear-first, first-found, first-at, numbered-at}
+use Rattle.ruling.proofs.Means.{true-flag, equal}
+use Rattle.ruling.proofs.Rulewise.{to-rules, from-rules}
 
--- none of the checks refuses
-abbrev pub Clear : List Check → Type 0
-Clear [] = Unit {0}
-Clear (c ∷ cs) = T (not (c .1)) × Clear cs
+-- ---- a number and what follows where it is 0
 
--- ---- the expiry date that applies, by the purpose
+module _ {A : Type 0} (n : ℕ) (a : A) where
+  unless-got : {w : A} → unless n a ≡ got w → (n ≡ 0) × (a ≡ w)
+  unfolding unless
+  unless-got e =
+      pick-case (eqb n 0) (got a) (refused n 0) e (λ t f. (equal n 0 .to t, got-inj f)) (λ t f. absurd (refused-got f))
 
-module _ (p clock floor : ℕ) (sa ha so ho su hu : Option ℕ) where
-  abbrev ClockClear : Type 0
-  ClockClear = T (not (clockRefused clock floor sa ha (expiry p so su) (expiry p ho hu)))
+  unless-refused : {k p : ℕ} → unless n a ≡ refused k p → (n ≡ 0 → ⊥) × (n ≡ k) × (p ≡ 0)
+  unfolding unless
+  unless-refused e =
+      pick-case (eqb n 0) (got a) (refused n 0) e (λ t f. absurd (refused-got (sym f))) (λ t f. (not-equal n 0 t, cc, cc))
 
-  abbrev ExpiryClear : Type 0
-  ExpiryClear = T (not (expiryRefused clock (expiry p so su) (expiry p ho hu)))
+module _ (level keymintLevel : ℕ) (s h : Rules) (q : Request) where
+  abbrev number : ℕ
+  number = firstRefusing (checks s h q)
 
-  floor-signing : ClockClear → Signing p → Held so ho → floor ≤ clock
-  unfolding pick
-  floor-signing k g x = means-36 clock floor sa ha so ho .to (rw (signing p g) at k) (inr x)
+  abbrev permitted : Permit
+  permitted = permitOf level keymintLevel (markOf (held h) (lookedAt s h q)) (markOf (held s) (lookedAt s h q))
 
-  floor-deciphering : ClockClear → Deciphering p → Held su hu → floor ≤ clock
-  unfolding pick
-  floor-deciphering k g x = means-36 clock floor sa ha su hu .to (rw (deciphering p g) at k) (inr x)
+  -- a permit's marks are those of the definition
+  pub permit-is : {w : Permit} → ruled level keymintLevel s h q ≡ got w → permitted ≡ w
+  unfolding ruled
+  permit-is e = unless-got number permitted e .1
 
-  clock-clear : Signing p ⊎ Deciphering p → (Held sa ha → floor ≤ clock) → (Signing p → Held so ho → floor ≤ clock) → (Deciphering p → Held su hu → floor ≤ clock) → ClockClear
-  unfolding pick
-  clock-clear (inl g) u v w = rw (signing p g) (means-36 clock floor sa ha so ho .from (⊎-elim u (v g)))
-  clock-clear (inr g) u v w = rw (deciphering p g) (means-36 clock floor sa ha su hu .from (⊎-elim u (w g)))
+  -- "Checks, in order": a permit is given exactly where every rule of both lists allows the use
+  pub permitted-exactly : ((w : Permit) × (ruled level keymintLevel s h q ≡ got w)) ↔ Allowed s h q
+  unfolding ruled unless pick
+  permitted-exactly = (
+    (λ x. to-rules s h q (none-refuses (checks s h q) (all-numbered s h q) (unless-got number permitted (x .1) .0))),
+    (λ x. (permitted, rw (eq-eqb number 0 (clear-first (checks s h q) (from-rules s h q x))) refl)),
+  )
 
-  expiry-signing : ExpiryClear → Signing p → Each so ho (λ date. clock ≤ date)
-  unfolding pick
-  expiry-signing k g = means-38 clock so ho .to (rw (signing p g) at k)
+  -- a refusal's number is that of the first check that refuses: none before it does. "Refusals of rulings .. have place 0"
+  pub refusal-is-first : {n place : ℕ} → ruled level keymintLevel s h q ≡ refused n place
+      → (place ≡ 0) × ((earlier : List Check) × (later : List Check) × (checks s h q ≡ earlier ++ ((n, true) ∷ later)) × Clear earlier)
+  unfolding ruled
+  refusal-is-first {n} e =
+      let u = unless-refused number permitted e in
+      let w = first-found (checks s h q) (u .0) in
+      (u .2, (w .0, w .1, subst (λ (k : ℕ). checks s h q ≡ w .0 ++ ((k, true) ∷ w .1)) (u .1) (w .2), w .3))
 
-  expiry-deciphering : ExpiryClear → Deciphering p → Each su hu (λ date. clock ≤ date)
-  unfolding pick
-  expiry-deciphering k g = means-38 clock su hu .to (rw (deciphering p g) at k)
+  -- and where a check refuses and none before it does, its number is the answer
+  pub first-is-refusal : (earlier : List Check) (n : ℕ) (later : List Check) → checks s h q ≡ earlier ++ ((n, true) ∷ later) → Clear earlier → ruled level keymintLevel s h q ≡ refused n 0
+  unfolding ruled unless pick
+  first-is-refusal earlier n later e k =
+      let f : number ≡ n = ap firstRefusing e ∙ first-at earlier n later k in
+      let z : n ≡ 0 → ⊥ = numbered-at earlier n later (subst (λ (l : List Check). T (numbered l)) e (all-numbered s h q)) in
+      rw (f, ne-eqb n 0 z) refl
 
-  expiry-clear : Signing p ⊎ Deciphering p → (Signing p → Each so ho (λ date. clock ≤ date)) → (Deciphering p → Each su hu (λ date. clock ≤ date)) → ExpiryClear
-  unfolding pick
-  expiry-clear (inl g) v w = rw (signing p g) (means-38 clock so ho .from (v g))
-  expiry-clear (inr g) v w = rw (deciphering p g) (means-38 clock su hu .from (w g))
+-- "A record that isn't well-shaped gives 20 before all else"
+module _ (r : Record) (q : Request) where
+  pub ill-shaped-is-20 : wellShapedRecord r ≡ false → ruling r q ≡ refused illShaped 0
+  unfolding ruling guard
+  ill-shaped-is-20 e = rw e refl
 
-module _ (s h : Rules) (q : Request) where
-  abbrev algorithm : ℕ
-  algorithm = agreed (s .algorithm) (h .algorithm)
-
-  -- ---- from the checks to the rules
-
-  not-none : (p a : ℕ) → Fits p a → a ≡ 0 → ⊥
-  not-none p a (inl (e, x)) z = omega arith
-  not-none p a (inr (e, x)) z = omega arith
-
-  to-rules : Clear (checks s h q) → Allowed s h q
-  unfolding shapeChecks dateChecks tokenChecks deviceChecks
-  to-rules (k30, (k31, (k32, (k33, (k34, (k35, (k36, (k37, (k38, (k39, (k40, (k41, (k42, (k43, (k44, (k45, (k46, _))))))))))))))))) =
-      let p = q .purpose in
-      let m = q .padding in
-      let d = q .digest in
-      let fits = means-32 p algorithm .to k32 in
-      let pads = means-33 p algorithm m (s .padding) (h .padding) .to k33 in
-      let digs = means-34 p algorithm m d (s .digest) (h .digest) .to k34 in
-      let says = agreed-says (s .algorithm) (h .algorithm) (not-none p algorithm fits) in
-      let fresh = means-41 (q .uptime) (q .token .time) (q .handle) (q .token .challenge) (s .authType) (h .authType) (s .authTimeout) (h .authTimeout) .to k41 in
-      record {
-        purpose = means-31 p (s .purpose) (h .purpose) .to k31;
-        algorithm = algorithm;
-        present = says .0;
-        agreed = says .1;
-        shape = shape-of p algorithm m d (λ x. pads x .0) (λ x. digs x .0) fits;
-        padding = λ x. pads x .1;
-        digest = λ x. digs x .1;
-        keySize = means-35 p algorithm m d (s .keySize) (h .keySize) .to k35;
-        floor = λ x. means-36 (q .clock) (q .floor) (s .active) (h .active) (expiry p (s .origination) (s .usage)) (expiry p (h .origination) (h .usage)) .to k36 (inl x);
-        originationFloor = floor-signing p (q .clock) (q .floor) (s .active) (h .active) (s .origination) (h .origination) (s .usage) (h .usage) k36;
-        usageFloor = floor-deciphering p (q .clock) (q .floor) (s .active) (h .active) (s .origination) (h .origination) (s .usage) (h .usage) k36;
-        active = means-37 (q .clock) (s .active) (h .active) .to k37;
-        origination = expiry-signing p (q .clock) (q .floor) (s .active) (h .active) (s .origination) (h .origination) (s .usage) (h .usage) k38;
-        usage = expiry-deciphering p (q .clock) (q .floor) (s .active) (h .active) (s .origination) (h .origination) (s .usage) (h .usage) k38;
-        auth = means-39 (s .noAuth) (h .noAuth) (s .authType) (h .authType) .to k39;
-        token = means-40 (q .token .there) (q .token .kinds) (s .authType) (h .authType) .to k40;
-        recent = λ x. ((λ n e. fresh x .0 (inl (n, e)) .0 n e), (λ n e. fresh x .0 (inr (n, e)) .1 n e));
-        bound = λ x. fresh x .1;
-        unlocked = means-forbids (s .unlocked) (h .unlocked) (q .locked) .to k42;
-        presence = means-wants (s .presence) (h .presence) (q .present) .to k43;
-        confirmation = means-wants (s .confirmation) (h .confirmation) (q .confirmed) .to k44;
-        earlyBoot = means-forbids (s .earlyBoot) (h .earlyBoot) (q .booted) .to k45;
-        useLimit = means-46 (q .uses) (s .useLimit) (h .useLimit) .to k46;
-      }
-
-  -- ---- from the rules to the checks
-
-  from-rules : Allowed s h q → Clear (checks s h q)
-  unfolding shapeChecks dateChecks tokenChecks deviceChecks
-  from-rules w =
-      let p = q .purpose in
-      let a = w .algorithm in
-      let m = q .padding in
-      let d = q .digest in
-      let e : agreed (s .algorithm) (h .algorithm) ≡ a = agreed-is (s .algorithm) (h .algorithm) a (w .present) (w .agreed) in
-      let side = known-side p (shape-known p a m d (w .shape)) in (
-        means-30 p .from (shape-known p a m d (w .shape)),
-        (
-          means-31 p (s .purpose) (h .purpose) .from (w .purpose),
-          (
-            rw e (means-32 p a .from (shape-fits p a m d (w .shape))),
-            (
-              rw e (means-33 p a m (s .padding) (h .padding) .from (λ x. (shape-padding p a m d (w .shape) x, w .padding x))),
-              (
-                rw e (means-34 p a m d (s .digest) (h .digest) .from (λ x. (shape-digest p a m d (w .shape) x, w .digest x))),
-                (
-                  rw e (means-35 p a m d (s .keySize) (h .keySize) .from (w .keySize)),
-                  (
-                    clock-clear p (q .clock) (q .floor) (s .active) (h .active) (s .origination) (h .origination) (s .usage) (h .usage) side (w .floor) (w .originationFloor) (w .usageFloor),
-                    (
-                      means-37 (q .clock) (s .active) (h .active) .from (w .active),
-                      (
-                        expiry-clear p (q .clock) (q .floor) (s .active) (h .active) (s .origination) (h .origination) (s .usage) (h .usage) side (w .origination) (w .usage),
-                        (
-                          means-39 (s .noAuth) (h .noAuth) (s .authType) (h .authType) .from (w .auth),
-                          (
-                            means-40 (q .token .there) (q .token .kinds) (s .authType) (h .authType) .from (w .token),
-                            (
-                              means-41 (q .uptime) (q .token .time) (q .handle) (q .token .challenge) (s .authType) (h .authType) (s .authTimeout) (h .authTimeout) .from (λ x. ((λ y. w .recent x), w .bound x)),
-                              (
-                                means-forbids (s .unlocked) (h .unlocked) (q .locked) .from (w .unlocked),
-                                (
-                                  means-wants (s .presence) (h .presence) (q .present) .from (w .presence),
-                                  (
-                                    means-wants (s .confirmation) (h .confirmation) (q .confirmed) .from (w .confirmation),
-                                    (
-                                      means-forbids (s .earlyBoot) (h .earlyBoot) (q .booted) .from (w .earlyBoot),
-                                      (means-46 (q .uses) (s .useLimit) (h .useLimit) .from (w .useLimit), tt),
-                                    ),
-                                  ),
-                                ),
-                              ),
-                            ),
-                          ),
-                        ),
-                      ),
-                    ),
-                  ),
-                ),
-              ),
-            ),
-          ),
-        ),
+  pub record-permitted-exactly : ((w : Permit) × (ruling r q ≡ got w)) ↔ (wellShapedRecord r ≡ true) × Allowed (rulesOf (r .software)) (rulesOf (r .hardware)) q
+  unfolding ruling guard
+  record-permitted-exactly =
+      let ruled-so = permitted-exactly (r .attestation .level) (r .keymint .level) (rulesOf (r .software)) (rulesOf (r .hardware)) q in
+      let answer = ruled (r .attestation .level) (r .keymint .level) (rulesOf (r .software)) (rulesOf (r .hardware)) q in (
+        (λ x. guard-case (wellShapedRecord r) illShaped 0 answer (x .1) (λ t e. (true-flag (wellShapedRecord r) .to t, ruled-so .0 (x .0, e)))),
+        (λ x. let w = ruled-so .1 (x .1) in (w .0, rw (x .0) (w .1))),
       )

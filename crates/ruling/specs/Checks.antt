@@ -1,13 +1,13 @@
 -- Document 01, "The use ruling": each check, over just the tags that it reads. s and h are what the software and the
 -- hardware list say; a check that is true refuses.
-use mathlib.Core.Bool.{Bool, true, false, not, _&&_, _||_}
+use mathlib.Core.Bool.{Bool, not, _&&_, _||_}
 use mathlib.Core.Option.{Option, none, some}
 use mathlib.Core.List.{List}
 use Prim.Native.Nat.{ℕ, _+_, _*_, _-_, _/_}
 use lib.Dec.{eqb, leb, ltb}
 use lib.Bits.{bitAnd}
 use Rattle.answer.specs.Answer.{pick}
-use Rattle.ruling.specs.Rules.{there, allows, either, bothAllow, setAllows}
+use Rattle.ruling.specs.Rules.{either, bothAllow, setAllows}
 
 -- ---- 30, 31: the purpose
 

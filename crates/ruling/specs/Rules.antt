@@ -6,7 +6,6 @@ use mathlib.Core.List.{List, [], _∷_}
 use Prim.Native.Nat.{ℕ}
 use lib.ListN.{getD}
 use lib.Dec.{eqb}
-use Rattle.answer.specs.Answer.{pick}
 use Rattle.records.specs.Content.{membersOf}
 use Rattle.records.specs.Equal.{presentAt}
 use Rattle.records.specs.declared.NumberSet.{NumberSet}
