@@ -76,6 +76,11 @@ module _ (r : Record) (q : Request) where
   unfolding ruling guard
   ill-shaped-is-20 e = rw e refl
 
+  pub well-shaped-is-ruled : wellShapedRecord r ≡ true → ruling r q ≡ ruled (r .attestation .level) (r .keymint .level) (rulesOf (r .software)) (rulesOf (r .hardware)) q
+  unfolding ruling guard
+  well-shaped-is-ruled e = rw e refl
+
+  -- so a record is permitted exactly where it is well-shaped and every rule of both its lists allows the use
   pub record-permitted-exactly : ((w : Permit) × (ruling r q ≡ got w)) ↔ (wellShapedRecord r ≡ true) × Allowed (rulesOf (r .software)) (rulesOf (r .hardware)) q
   unfolding ruling guard
   record-permitted-exactly =

@@ -1,5 +1,6 @@
 // Each check of the use ruling, over just the tags that it reads: s of the software list, h of the hardware list. One
-// that ends in `refused` answers true where it refuses.
+// that ends in `refused` or `missing` answers true where it refuses. Flags are joined by `&` and `|`, as there is nothing
+// to save by not asking.
 use crate::rules::NumberTag;
 use crate::rules::SetTag;
 use records::NumberSet;
@@ -62,14 +63,14 @@ fn sets_allow(n: u64, s: SetTag, h: SetTag) -> bool
     (s.there | h.there) & (set_allows(n, s) & set_allows(n, h))
 }
 
-// 30
+// 30: whether the purpose is one of the four.
 pub fn known_purpose(p: u64) -> bool
     ensures { λ b. ⌜ b ≡ knownPurpose p ⌝ }
 {
     (p == DECRYPT) | ((p == SIGN) | ((p == AGREE_KEY) | (p == ATTEST_KEY)))
 }
 
-// 31
+// 31: the purpose isn't allowed.
 pub fn purpose_refused(p: u64, s: SetTag, h: SetTag) -> bool
     ensures { λ b. ⌜ b ≡ purposeRefused p (ofSetTag s) (ofSetTag h) ⌝ }
 {
@@ -95,7 +96,7 @@ pub fn agreed(s: NumberTag, h: NumberTag) -> u64
     0
 }
 
-// 32
+// 32: whether the algorithm goes with the purpose.
 pub fn algorithm_fits(p: u64, a: u64) -> bool
     ensures { λ b. ⌜ b ≡ algorithmFits p a ⌝ }
 {
@@ -122,7 +123,7 @@ pub fn looks_at_padding(p: u64) -> bool
     (p == DECRYPT) | (p == SIGN)
 }
 
-// 33
+// 33: by shape and by the sets.
 pub fn padding_refused(p: u64, a: u64, m: u64, s: SetTag, h: SetTag) -> bool
     ensures { λ b. ⌜ b ≡ paddingRefused p a m (ofSetTag s) (ofSetTag h) ⌝ }
 {
@@ -152,7 +153,7 @@ fn digest_fits(a: u64, m: u64, d: u64) -> bool
     (1 <= d) & (d <= 6)
 }
 
-// 34
+// 34: by shape and by the sets.
 pub fn digest_refused(p: u64, a: u64, m: u64, d: u64, s: SetTag, h: SetTag) -> bool
     ensures { λ b. ⌜ b ≡ digestRefused p a m d (ofSetTag s) (ofSetTag h) ⌝ }
 {
@@ -196,7 +197,7 @@ fn size_allows(d: u64, t: NumberTag) -> bool
     !t.there | (8 * whole < t.value)
 }
 
-// 35
+// 35: absent from both lists, or too small in one that has it.
 pub fn key_size_refused(p: u64, a: u64, m: u64, d: u64, s: NumberTag, h: NumberTag) -> bool
     ensures { λ b. ⌜ b ≡ keySizeRefused p a m d (ofNumberTag s) (ofNumberTag h) ⌝ }
 {
@@ -219,7 +220,7 @@ pub fn expiry(p: u64, origination: NumberTag, usage: NumberTag) -> NumberTag
     usage
 }
 
-// 36: a is 400 and e the expiry date that applies.
+// 36: a date tag applies and the clock is below its floor; a is 400 and e the expiry date that applies.
 pub fn clock_refused(
     clock: u64,
     floor: u64,
@@ -233,28 +234,28 @@ pub fn clock_refused(
     (clock < floor) & ((sa.there | ha.there) | (se.there | he.there))
 }
 
-// 37
+// 37: before 400. Equality is allowed.
 pub fn active_refused(clock: u64, s: NumberTag, h: NumberTag) -> bool
     ensures { λ b. ⌜ b ≡ activeRefused clock (ofNumberTag s) (ofNumberTag h) ⌝ }
 {
     !((!s.there | (s.value <= clock)) & (!h.there | (h.value <= clock)))
 }
 
-// 38
+// 38: after the expiry date that applies. Equality is allowed.
 pub fn expiry_refused(clock: u64, s: NumberTag, h: NumberTag) -> bool
     ensures { λ b. ⌜ b ≡ expiryRefused clock (ofNumberTag s) (ofNumberTag h) ⌝ }
 {
     !((!s.there | (clock <= s.value)) & (!h.there | (clock <= h.value)))
 }
 
-// 39: n is 503; s and h are 504.
+// 39: neither 503 nor 504; n is 503, s and h are 504.
 pub fn auth_missing(ns: bool, nh: bool, s: NumberTag, h: NumberTag) -> bool
     ensures { λ b. ⌜ b ≡ authMissing ns nh (ofNumberTag s) (ofNumberTag h) ⌝ }
 {
     !((ns | nh) | (s.there | h.there))
 }
 
-// 40
+// 40: no token, or one whose type shares no bit with a 504.
 pub fn token_refused(token: bool, kinds: u64, s: NumberTag, h: NumberTag) -> bool
     ensures { λ b. ⌜ b ≡ tokenRefused token kinds (ofNumberTag s) (ofNumberTag h) ⌝ }
 {
@@ -289,7 +290,7 @@ fn timeout_allows(uptime: u64, time: u64, t: NumberTag) -> bool
     recent(uptime, time, t.value)
 }
 
-// 41: a is 504 and t is 505.
+// 41: a token that is not fresh, or for another operation; a is 504 and t is 505.
 pub fn fresh_refused(
     uptime: u64,
     time: u64,
@@ -318,7 +319,7 @@ pub fn null_refused(s: bool, h: bool, forbidden: bool) -> bool
     (s | h) & forbidden
 }
 
-// 46
+// 46: the uses so far have reached 405.
 pub fn uses_refused(uses: u64, s: NumberTag, h: NumberTag) -> bool
     ensures { λ b. ⌜ b ≡ usesRefused uses (ofNumberTag s) (ofNumberTag h) ⌝ }
 {

@@ -8,6 +8,7 @@ pub mod rules;
 use answer::ILL_SHAPED;
 use records::Record;
 use request::Request;
+use rules::Rules;
 ghost use mathlib.Core.Path.{_≡_};
 ghost use Rattle.ruling.specs.Ruling.{ruled, ruling, lookedAt};
 ghost use Rattle.ruling.specs.Code.{ofRules, ofRuling};
@@ -24,7 +25,7 @@ pub enum Ruling {
 }
 
 // Which of the sixteen tags are looked at.
-fn looked_at(s: rules::Rules, h: rules::Rules, q: Request) -> [bool; 16]
+fn looked_at(s: Rules, h: Rules, q: Request) -> [bool; 16]
     ensures { λ l. ⌜ l ≡ lookedAt (ofRules s) (ofRules h) q ⌝ }
 {
     let sa = s.algorithm;
@@ -39,8 +40,8 @@ fn looked_at(s: rules::Rules, h: rules::Rules, q: Request) -> [bool; 16]
     )
 }
 
-// The ruling by the rules of both lists.
-fn ruled(level: u32, keymint: u32, s: rules::Rules, h: rules::Rules, q: Request) -> Ruling
+// The ruling by the rules of both lists: the first refusal, or a permit with its marks.
+fn ruled(level: u32, keymint: u32, s: Rules, h: Rules, q: Request) -> Ruling
     ensures { λ a. ⌜ ofRuling a ≡ ruled level keymint (ofRules s) (ofRules h) q ⌝ }
 {
     let number = order::first_refusal(s, h, q);
