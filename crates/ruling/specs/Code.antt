@@ -1,4 +1,5 @@
--- What the code's values stand for.
+-- What the code's values stand for: a tag that is not there is none, whatever its value, and an answer is a permit or
+-- document 01's number and place.
 use mathlib.Core.Option.{Option}
 use mathlib.Core.List.{List}
 use Prim.Native.Nat.{ℕ}
@@ -12,12 +13,15 @@ use Rattle.ruling.specs.declared.rules.NumberTag.{NumberTag}
 use Rattle.ruling.specs.declared.rules.SetTag.{SetTag}
 use Rattle.ruling.specs.declared.rules.Rules as code
 
+-- a flag and a number
 abbrev pub ofNumberTag : NumberTag → Option ℕ
 ofNumberTag t = given (t .there) (t .value)
 
+-- a flag and a set, of which the members count
 abbrev pub ofSetTag : SetTag → Option (List ℕ)
 ofSetTag t = given (t .there) (membersOf (t .set))
 
+-- a list's rules, tag by tag
 abbrev pub ofRules : code.Rules → Rules
 ofRules r = record {
   purpose = ofSetTag (r .purpose);
@@ -38,6 +42,7 @@ ofRules r = record {
   noAuth = r .noauth;
 }
 
+-- a permit's marks and counts, or a refusal
 abbrev pub ofRuling : Ruling → Answer Permit
 ofRuling (variant.Permit hardware hardwareBits software softwareBits) = got (record { hardware = hardware; hardwareBits = hardwareBits; software = software; softwareBits = softwareBits })
 ofRuling (variant.Refused number place) = refused number place
