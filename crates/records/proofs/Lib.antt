@@ -4,6 +4,7 @@ pub mod Buffer
 pub mod Asking
 pub mod OctetFields
 pub mod PartOctets
+pub mod Placed
 pub mod Shapes
 pub mod ShapedContent
 pub mod ContentShaped

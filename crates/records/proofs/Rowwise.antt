@@ -37,3 +37,8 @@ all-fails f n k h e = go (allBelow f n) refl
     go : (b : Bool) → allBelow f n ≡ b → false ≡ b
     go true p = rw e at (all-at f n k h p)
     go false p = refl
+
+pub all-agree : (f g : ℕ → Bool) (n : ℕ) → ((k : ℕ) → k < n → f k ≡ g k) → allBelow f n ≡ allBelow g n
+unfolding allBelow
+all-agree f g zero h = refl
+all-agree f g (suc n) h = rw (all-agree f g n (λ k i. h k (omega arith)), h n (omega arith)) refl

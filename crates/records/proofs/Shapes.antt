@@ -1,6 +1,6 @@
 -- Well-shaped records: each answer of the code is the same test of `specs/Shape`. Assumes nothing.
 use mathlib.Core.Path.{_≡_, refl, sym, _∙_}
-use mathlib.Core.Bool.{Bool, true, false, not, _&&_}
+use mathlib.Core.Bool.{Bool, true, false, not, _&&_, true≢false}
 use mathlib.Core.Logic.{inl, inr}
 use mathlib.Core.List.{List, [], _∷_}
 use Prim.Native.Nat.{ℕ, zero, suc, _+_, _<_, _≤_, _^_}
@@ -13,7 +13,7 @@ use denote.Enum.Declared.{tagOf}
 use types.Run.{OneOf}
 use Rattle.answer.specs.Answer.{pick}
 use Rattle.answer.proofs.Logic.{by-le}
-use Rattle.schema.specs.Table.{rowAt, knownVersion, heldIn, levelTop, hashed, top32, top64}
+use Rattle.schema.specs.Table.{Kind, set, number32, number64, null, octets, root, rows, rowAt, knownVersion, heldIn, levelTop, hashed, top32, top64}
 use Rattle.schema.specs.Rows.{ofKind, ofRow}
 use Rattle.schema.specs.declared.Row.{Row}
 use Rattle.schema.specs.declared.Kind as code
@@ -24,8 +24,10 @@ use Rattle.records.specs.declared.FieldList.{FieldList}
 use Rattle.records.specs.declared.Record.{Record}
 use Rattle.records.specs.Content.{setAt}
 use Rattle.records.specs.Rows.{allBelow}
+use Rattle.records.specs.Plain.{plainShaped, rowPlain}
 use Rattle.records.specs.Shape.{memberShaped, setShaped, rootShaped, valueShaped, rowShaped, listShaped, headShaped, wellShapedRecord}
-use Rattle.records.proofs.Rowwise.{both-true, all-none, all-more, all-fewer, all-fails}
+use Rattle.records.proofs.Rowwise.{both-true, all-none, all-more, all-fewer, all-fails, all-agree}
+use Rattle.records.proofs.Placed.{by-set, by-root}
 
 -- ---- versions and levels
 
@@ -167,70 +169,133 @@ module _ (l : FieldList) (n : ℕ) where
   unfolding pick
   set-mgf a b d = rw (ne-eqb n 1 a, ne-eqb n 5 b, ne-eqb n 6 d) refl
 
-other-shaped : (q : code.Kind) (v n : ℕ) (g : NumberSet) (t : RootOfTrust) → OneOf (3 ∷ 4 ∷ []) (tagOf kinds.the-type q) → true ≡ valueShaped v (ofKind q) n g t
-unfolding valueShaped
-other-shaped code.Kind.Set v n g t (inl e) = absurd (omega arith)
-other-shaped code.Kind.Set v n g t (inr e) = absurd (omega arith)
-other-shaped code.Kind.Number32 v n g t (inl e) = absurd (omega arith)
-other-shaped code.Kind.Number32 v n g t (inr e) = absurd (omega arith)
-other-shaped code.Kind.Number64 v n g t (inl e) = absurd (omega arith)
-other-shaped code.Kind.Number64 v n g t (inr e) = absurd (omega arith)
-other-shaped code.Kind.Null v n g t o = refl
-other-shaped code.Kind.Octets v n g t o = refl
-other-shaped code.Kind.Root v n g t (inl e) = absurd (omega arith)
-other-shaped code.Kind.Root v n g t (inr e) = absurd (omega arith)
+-- a number, by its kind
+other-plain : (q : code.Kind) (n : ℕ) → OneOf (0 ∷ 3 ∷ 4 ∷ 5 ∷ []) (tagOf kinds.the-type q) → true ≡ plainShaped (ofKind q) n
+unfolding plainShaped
+other-plain code.Kind.Set n o = refl
+other-plain code.Kind.Number32 n (inl e) = absurd (omega arith)
+other-plain code.Kind.Number32 n (inr (inl e)) = absurd (omega arith)
+other-plain code.Kind.Number32 n (inr (inr (inl e))) = absurd (omega arith)
+other-plain code.Kind.Number32 n (inr (inr (inr e))) = absurd (omega arith)
+other-plain code.Kind.Number64 n (inl e) = absurd (omega arith)
+other-plain code.Kind.Number64 n (inr (inl e)) = absurd (omega arith)
+other-plain code.Kind.Number64 n (inr (inr (inl e))) = absurd (omega arith)
+other-plain code.Kind.Number64 n (inr (inr (inr e))) = absurd (omega arith)
+other-plain code.Kind.Null n o = refl
+other-plain code.Kind.Octets n o = refl
+other-plain code.Kind.Root n o = refl
 
-module _ (v : ℕ) (l : FieldList) (k : ℕ) where
-  pub absent-shaped : not (getD (l .present) k false) ≡ true → true ≡ rowShaped v l k
-  unfolding rowShaped pick
-  absent-shaped n = rw (not-true (getD (l .present) k false) n) refl
+module _ (q : code.Kind) (n : ℕ) where
+  pub plain-number32 : q ≡ code.Kind.Number32 → leb n top32 ≡ plainShaped (ofKind q) n
+  unfolding plainShaped
+  plain-number32 e = rw e refl
 
-  module _ (p : not (getD (l .present) k false) ≡ false) (r : Row) (f : ofRow r ≡ rowAt k) (x : Bool) (e : x ≡ heldIn v (ofRow r)) where
-    pub not-held : not x ≡ true → false ≡ rowShaped v l k
-    unfolding rowShaped pick
-    not-held n = rw (not-false (getD (l .present) k false) p, ← f, ← e, not-true x n) refl
+  pub plain-number64 : q ≡ code.Kind.Number64 → leb n top64 ≡ plainShaped (ofKind q) n
+  unfolding plainShaped
+  plain-number64 e = rw e refl
 
-    module _ (n : not x ≡ false) where
-      by-kind : (y : Bool) → y ≡ valueShaped v (ofKind (r .kind)) (getD (l .values) k 0) (setAt l (r .number)) (l .root) → y ≡ rowShaped v l k
-      unfolding rowShaped pick
-      by-kind y q = rw (not-false (getD (l .present) k false) p, ← f, ← e, not-false x n) q
+  pub plain-other : OneOf (0 ∷ 3 ∷ 4 ∷ 5 ∷ []) (tagOf kinds.the-type q) → true ≡ plainShaped (ofKind q) n
+  plain-other o = other-plain q n o
 
-      pub as-number32 : r .kind ≡ code.Kind.Number32 → leb (getD (l .values) k 0) top32 ≡ rowShaped v l k
-      unfolding valueShaped
-      as-number32 q = by-kind (leb (getD (l .values) k 0) top32) (rw q refl)
-
-      pub as-number64 : r .kind ≡ code.Kind.Number64 → leb (getD (l .values) k 0) top64 ≡ rowShaped v l k
-      unfolding valueShaped
-      as-number64 q = by-kind (leb (getD (l .values) k 0) top64) (rw q refl)
-
-      pub as-set : (g : NumberSet) (y : Bool) → r .kind ≡ code.Kind.Set → g ≡ setAt l (r .number) → y ≡ setShaped g → y ≡ rowShaped v l k
-      unfolding valueShaped
-      as-set g y q o z = by-kind y (rw (q, ← o) z)
-
-      pub as-root : (y : Bool) → r .kind ≡ code.Kind.Root → y ≡ rootShaped v (l .root) → y ≡ rowShaped v l k
-      unfolding valueShaped
-      as-root y q z = by-kind y (rw q z)
-
-      pub as-other : OneOf (3 ∷ 4 ∷ []) (tagOf kinds.the-type (r .kind)) → true ≡ rowShaped v l k
-      as-other o = by-kind true (other-shaped (r .kind) v (getD (l .values) k 0) (setAt l (r .number)) (l .root) o)
-
--- ---- a list, and the record
+-- ---- the rows of a list
 
 module _ (v : ℕ) (l : FieldList) where
-  pub shapes-begin : allBelow (rowShaped v l) 0 ≡ true
-  shapes-begin = all-none (rowShaped v l)
+  pub rows-begin : allBelow (rowPlain v l) 0 ≡ true
+  rows-begin = all-none (rowPlain v l)
 
-  module _ (k : ℕ) (x : Bool) (e : x ≡ rowShaped v l k) where
-    pub row-bad : k < 42 → not x ≡ true → false ≡ listShaped v l
-    unfolding listShaped
-    row-bad h n = all-fails (rowShaped v l) 42 k h (sym e ∙ not-true x n)
+  module _ (k : ℕ) (i : allBelow (rowPlain v l) k ≡ true) where
+    pub row-absent : getD (l .present) k false ≡ false → allBelow (rowPlain v l) (k + 1) ≡ true
+    unfolding rowPlain pick
+    row-absent a = all-more (rowPlain v l) k i (rw a refl)
 
-    pub row-good : allBelow (rowShaped v l) k ≡ true → not x ≡ false → allBelow (rowShaped v l) (k + 1) ≡ true
-    row-good i n = all-more (rowShaped v l) k i (sym e ∙ not-false x n)
+    module _ (h : k < 42) (a : getD (l .present) k false ≡ true) (r : Row) (f : ofRow r ≡ rowAt k) (x : Bool) (e : x ≡ heldIn v (ofRow r)) where
+      pub not-held : not x ≡ true → false ≡ allBelow (rowPlain v l) 42
+      unfolding rowPlain pick
+      not-held n = all-fails (rowPlain v l) 42 k h (rw (a, ← f, ← e, not-true x n) refl)
 
-  pub shapes-end : (k : ℕ) → allBelow (rowShaped v l) k ≡ true → 42 ≤ k → true ≡ listShaped v l
-  unfolding listShaped
-  shapes-end k i h = all-fewer (rowShaped v l) 42 k h i
+      module _ (n : not x ≡ false) (y : Bool) (g : y ≡ plainShaped (ofKind (r .kind)) (getD (l .values) k 0)) where
+        pub row-bad : not y ≡ true → false ≡ allBelow (rowPlain v l) 42
+        unfolding rowPlain pick
+        row-bad m = all-fails (rowPlain v l) 42 k h (rw (a, ← f, ← e, not-false x n, ← g, not-true y m) refl)
+
+        pub row-good : not y ≡ false → allBelow (rowPlain v l) (k + 1) ≡ true
+        unfolding rowPlain pick
+        row-good m = all-more (rowPlain v l) k i (rw (a, ← f, ← e, not-false x n, ← g, not-false y m) refl)
+
+  pub rows-end : (k : ℕ) → allBelow (rowPlain v l) k ≡ true → 42 ≤ k → true ≡ allBelow (rowPlain v l) 42
+  rows-end k i h = all-fewer (rowPlain v l) 42 k h i
+
+-- ---- a list: its sets and 704, and its rows
+
+pub row-none : (b : Bool) (x : Bool) → not b ≡ true → true ≡ pick b x true
+unfolding pick
+row-none b x n = rw (not-true b n) refl
+
+pub row-there : (b : Bool) (x y : Bool) → not b ≡ false → y ≡ x → y ≡ pick b x true
+unfolding pick
+row-there b x y n e = rw (not-false b n) e
+
+and-false : (a : Bool) → a && false ≡ false
+and-false true = refl
+and-false false = refl
+
+-- a row whose own place is ill-shaped
+apart-bad : (b held x : Bool) → pick b x true ≡ false → pick b (held && x) true ≡ false
+unfolding pick
+apart-bad true held x e = rw e (and-false held)
+apart-bad false held x e = absurd (true≢false e)
+
+-- a row whose own place is well-shaped
+apart-good : (b held x : Bool) → pick b x true ≡ true → pick b (held && true) true ≡ pick b (held && x) true
+unfolding pick
+apart-good true held x e = rw e refl
+apart-good false held x e = refl
+
+module _ (v : ℕ) (l : FieldList) where
+  pub purpose-bad : (x : Bool) → x ≡ pick (getD (l .present) 0 false) (setShaped (l .purpose)) true → not x ≡ true → false ≡ listShaped v l
+  unfolding listShaped rowShaped rows valueShaped pick
+  purpose-bad x e n = all-fails (rowShaped v l) 42 0 (omega arith) (apart-bad (getD (l .present) 0 false) (heldIn v (rowAt 0)) (setShaped (l .purpose)) (sym e ∙ not-true x n))
+
+  pub digest-bad : (x : Bool) → x ≡ pick (getD (l .present) 3 false) (setShaped (l .digest)) true → not x ≡ true → false ≡ listShaped v l
+  unfolding listShaped rowShaped rows valueShaped pick
+  digest-bad x e n = all-fails (rowShaped v l) 42 3 (omega arith) (apart-bad (getD (l .present) 3 false) (heldIn v (rowAt 3)) (setShaped (l .digest)) (sym e ∙ not-true x n))
+
+  pub padding-bad : (x : Bool) → x ≡ pick (getD (l .present) 4 false) (setShaped (l .padding)) true → not x ≡ true → false ≡ listShaped v l
+  unfolding listShaped rowShaped rows valueShaped pick
+  padding-bad x e n = all-fails (rowShaped v l) 42 4 (omega arith) (apart-bad (getD (l .present) 4 false) (heldIn v (rowAt 4)) (setShaped (l .padding)) (sym e ∙ not-true x n))
+
+  pub mgf-bad : (x : Bool) → x ≡ pick (getD (l .present) 7 false) (setShaped (l .mgf)) true → not x ≡ true → false ≡ listShaped v l
+  unfolding listShaped rowShaped rows valueShaped pick
+  mgf-bad x e n = all-fails (rowShaped v l) 42 7 (omega arith) (apart-bad (getD (l .present) 7 false) (heldIn v (rowAt 7)) (setShaped (l .mgf)) (sym e ∙ not-true x n))
+
+  pub root-bad : (x : Bool) → x ≡ pick (getD (l .present) 26 false) (rootShaped v (l .root)) true → not x ≡ true → false ≡ listShaped v l
+  unfolding listShaped rowShaped rows valueShaped pick
+  root-bad x e n = all-fails (rowShaped v l) 42 26 (omega arith) (apart-bad (getD (l .present) 26 false) (heldIn v (rowAt 26)) (rootShaped v (l .root)) (sym e ∙ not-true x n))
+
+  module _ (a b d f g : Bool)
+      (ea : a ≡ pick (getD (l .present) 0 false) (setShaped (l .purpose)) true) (na : not a ≡ false)
+      (eb : b ≡ pick (getD (l .present) 3 false) (setShaped (l .digest)) true) (nb : not b ≡ false)
+      (ed : d ≡ pick (getD (l .present) 4 false) (setShaped (l .padding)) true) (nd : not d ≡ false)
+      (ef : f ≡ pick (getD (l .present) 7 false) (setShaped (l .mgf)) true) (nf : not f ≡ false)
+      (eg : g ≡ pick (getD (l .present) 26 false) (rootShaped v (l .root)) true) (ng : not g ≡ false) where
+    apart : (k : ℕ) (j : Kind) → k < 42 → rowAt k .kind ≡ j
+        → pick (getD (l .present) k false) (heldIn v (rowAt k) && plainShaped j (getD (l .values) k 0)) true ≡ pick (getD (l .present) k false) (heldIn v (rowAt k) && valueShaped v j (getD (l .values) k 0) (setAt l (rowAt k .number)) (l .root)) true
+    unfolding plainShaped valueShaped rows pick
+    apart k number32 h q = refl
+    apart k number64 h q = refl
+    apart k null h q = refl
+    apart k octets h q = refl
+    apart k set h q =
+        by-set k h q
+        (λ (u : k ≡ 0). rw u (apart-good (getD (l .present) 0 false) (heldIn v (rowAt 0)) (setShaped (l .purpose)) (sym ea ∙ not-false a na)))
+        (λ (u : k ≡ 3). rw u (apart-good (getD (l .present) 3 false) (heldIn v (rowAt 3)) (setShaped (l .digest)) (sym eb ∙ not-false b nb)))
+        (λ (u : k ≡ 4). rw u (apart-good (getD (l .present) 4 false) (heldIn v (rowAt 4)) (setShaped (l .padding)) (sym ed ∙ not-false d nd)))
+        (λ (u : k ≡ 7). rw u (apart-good (getD (l .present) 7 false) (heldIn v (rowAt 7)) (setShaped (l .mgf)) (sym ef ∙ not-false f nf)))
+    apart k root h q = rw (by-root k h q) (apart-good (getD (l .present) 26 false) (heldIn v (rowAt 26)) (rootShaped v (l .root)) (sym eg ∙ not-false g ng))
+
+    pub list-by-rows : (y : Bool) → y ≡ allBelow (rowPlain v l) 42 → y ≡ listShaped v l
+    unfolding listShaped rowPlain rowShaped
+    list-by-rows y e = e ∙ all-agree (rowPlain v l) (rowShaped v l) 42 (λ k h. apart k (rowAt k .kind) h refl)
 
 module _ (r : Record) (x : Bool) (e : x ≡ headShaped (r .attestation .version) (r .attestation .level) (r .keymint .version) (r .keymint .level)) where
   pub head-bad : not x ≡ true → false ≡ wellShapedRecord r

@@ -6,12 +6,15 @@ use crate::Record;
 use crate::RootOfTrust;
 use schema::Kind;
 ghost use mathlib.Core.Path.{_≡_};
-ghost use mathlib.Core.Bool.{_&&_};
-ghost use Prim.Native.Nat.{_<_};
+ghost use mathlib.Core.Bool.{true, _&&_};
 ghost use lib.Dec.{leb};
+ghost use Rattle.answer.specs.Answer.{pick};
 ghost use Rattle.schema.specs.Table.{knownVersion, levelTop, top32};
+ghost use Rattle.schema.specs.Rows.{ofKind};
 ghost use Rattle.records.specs.Content.{setAt};
-ghost use Rattle.records.specs.Shape.{setShaped, rootShaped, rowShaped, listShaped, headShaped, wellShapedRecord};
+ghost use Rattle.records.specs.Rows.{allBelow};
+ghost use Rattle.records.specs.Shape.{setShaped, rootShaped, listShaped, headShaped, wellShapedRecord};
+ghost use Rattle.records.specs.Plain.{plainShaped, rowPlain};
 
 // A member within its top and not below least, which is one above the member before.
 fn member_shaped(member: u32, least: u64) -> bool
@@ -71,45 +74,80 @@ pub fn set_at(l: FieldList, number: usize) -> NumberSet
     l.mgf
 }
 
-fn row_shaped(version: u32, l: FieldList, k: usize) -> bool
-    requires { ⌜ k < 42 ⌝ }
-    ensures { λ b. ⌜ b ≡ rowShaped version l k ⌝ }
+// A present number is within its top; what has its own place in a list is looked at there.
+fn plain_shaped(kind: Kind, value: u64) -> bool
+    ensures { λ b. ⌜ b ≡ plainShaped (ofKind kind) value ⌝ }
 {
-    if !l.present[k] {
-        return true;
-    }
-    let row = schema::row_at(k);
-    if !schema::held(version, row) {
-        return false;
-    }
-    let value = l.values[k];
-    let kind = row.kind;
     match kind {
         Kind::Number32 => value <= 0xffff_ffff,
-        Kind::Set => {
-            let g = set_at(l, row.number);
-            set_shaped(g)
-        }
-        Kind::Root => {
-            let t = l.root;
-            root_shaped(version, t)
-        }
         Kind::Number64 => value <= 0xffff_ffff_ffff_ffff,
         _ => true,
     }
 }
 
-fn list_shaped(version: u32, l: FieldList) -> bool
-    ensures { λ b. ⌜ b ≡ listShaped version l ⌝ }
+// Every present field is one its version holds, its number within its top.
+fn rows_shaped(version: u32, l: FieldList) -> bool
+    ensures { λ b. ⌜ b ≡ allBelow (rowPlain version l) 42 ⌝ }
 {
     let mut k: usize = 0;
     while k < 42 {
-        if !row_shaped(version, l, k) {
-            return false;
+        if l.present[k] {
+            let row = schema::row_at(k);
+            if !schema::held(version, row) {
+                return false;
+            }
+            let kind = row.kind;
+            if !plain_shaped(kind, l.values[k]) {
+                return false;
+            }
+            k += 1;
+        } else {
+            k += 1;
         }
-        k += 1;
     }
     true
+}
+
+// A set, where its field is present.
+fn set_row(present: bool, g: NumberSet) -> bool
+    ensures { λ b. ⌜ b ≡ pick present (setShaped g) true ⌝ }
+{
+    if !present {
+        return true;
+    }
+    set_shaped(g)
+}
+
+// 704, where it is present.
+fn root_row(version: u32, present: bool, t: RootOfTrust) -> bool
+    ensures { λ b. ⌜ b ≡ pick present (rootShaped version t) true ⌝ }
+{
+    if !present {
+        return true;
+    }
+    root_shaped(version, t)
+}
+
+// The four sets and 704 have their own places; no list is copied for a row.
+fn list_shaped(version: u32, l: FieldList) -> bool
+    ensures { λ b. ⌜ b ≡ listShaped version l ⌝ }
+{
+    if !set_row(l.present[0], l.purpose) {
+        return false;
+    }
+    if !set_row(l.present[3], l.digest) {
+        return false;
+    }
+    if !set_row(l.present[4], l.padding) {
+        return false;
+    }
+    if !set_row(l.present[7], l.mgf) {
+        return false;
+    }
+    if !root_row(version, l.present[26], l.root) {
+        return false;
+    }
+    rows_shaped(version, l)
 }
 
 // One of the seven.

@@ -1,51 +1,78 @@
--- `records::shape::list_shaped` meets its contract. The invariant: every row passed is well-shaped. Assumes nothing.
-use mathlib.Core.Path.{_≡_}
-use mathlib.Core.Bool.{true}
-use Prim.Native.Nat.{_-_}
-use Rattle.records.specs.Rows.{allBelow}
-use Rattle.records.specs.Shape.{rowShaped}
-use Rattle.records.proofs.Shapes.{shapes-begin, row-bad, row-good, shapes-end}
+-- `records::shape::list_shaped` meets its contract: each set and 704 in its own place, and then the rows. Assumes nothing.
+use Rattle.records.proofs.Shapes.{purpose-bad, digest-bad, padding-bad, mgf-bad, root-bad, list-by-rows}
 use borrow.Author.Needs.{needs}
 use Rattle.records.proofs.shape.list_shaped.Statement.{statement}
 use Rattle.records.proofs.shape.list_shaped.Tie as tie
 
-abbrev Inv-loop : tie.InvT-loop
-Inv-loop version l k₀ k = allBelow (rowShaped version l) k ≡ true
+element-copy-out-set-row : tie.Need-element-copy-out-set-row
+element-copy-out-set-row c = search needs
 
-abbrev μ-loop : tie.MeasureT-loop
-μ-loop version l k₀ k = 42 - k
+set-row-requires : tie.Need-set-row-requires
+set-row-requires c κs = search needs
 
-loop-holds : tie.Need-loop-holds Inv-loop μ-loop
-loop-holds c = search shapes-begin
+returns : tie.Need-returns
+returns c = search purpose-bad
 
-row-shaped-requires : tie.Need-row-shaped-requires Inv-loop μ-loop
-row-shaped-requires c κs = search needs
+element-copy-out-set-row-2 : tie.Need-element-copy-out-set-row-2
+element-copy-out-set-row-2 c = search needs
 
-returns : tie.Need-returns Inv-loop μ-loop
-returns c = search row-bad
+set-row-requires-2 : tie.Need-set-row-requires-2
+set-row-requires-2 c κs = search needs
 
-add-k : tie.Need-add-k Inv-loop μ-loop
-add-k c = search needs
+returns-2 : tie.Need-returns-2
+returns-2 c = search digest-bad
 
-loop-less : tie.Need-loop-less Inv-loop μ-loop
-loop-less c = search needs
+element-copy-out-set-row-3 : tie.Need-element-copy-out-set-row-3
+element-copy-out-set-row-3 c = search needs
 
-loop-again : tie.Need-loop-again Inv-loop μ-loop
-loop-again c = search row-good
+set-row-requires-3 : tie.Need-set-row-requires-3
+set-row-requires-3 c κs = search needs
 
-returns-2 : tie.Need-returns-2 Inv-loop μ-loop
-returns-2 c = search shapes-end
+returns-3 : tie.Need-returns-3
+returns-3 c = search padding-bad
+
+element-copy-out-set-row-4 : tie.Need-element-copy-out-set-row-4
+element-copy-out-set-row-4 c = search needs
+
+set-row-requires-4 : tie.Need-set-row-requires-4
+set-row-requires-4 c κs = search needs
+
+returns-4 : tie.Need-returns-4
+returns-4 c = search mgf-bad
+
+element-copy-out-root-row : tie.Need-element-copy-out-root-row
+element-copy-out-root-row c = search needs
+
+root-row-requires : tie.Need-root-row-requires
+root-row-requires c κs = search needs
+
+returns-5 : tie.Need-returns-5
+returns-5 c = search root-bad
+
+rows-shaped-requires : tie.Need-rows-shaped-requires
+rows-shaped-requires c κs = search needs
+
+returns-6 : tie.Need-returns-6
+returns-6 c = search list-by-rows
 
 pub list-shaped-spec : {M : Type 1} → statement M
 list-shaped-spec =
     tie.close
     (tie.spec
-    Inv-loop
-    μ-loop
-    loop-holds
-    row-shaped-requires
+    element-copy-out-set-row
+    set-row-requires
     returns
-    add-k
-    loop-less
-    loop-again
-    returns-2)
+    element-copy-out-set-row-2
+    set-row-requires-2
+    returns-2
+    element-copy-out-set-row-3
+    set-row-requires-3
+    returns-3
+    element-copy-out-set-row-4
+    set-row-requires-4
+    returns-4
+    element-copy-out-root-row
+    root-row-requires
+    returns-5
+    rows-shaped-requires
+    returns-6)
