@@ -34,10 +34,12 @@ pub fn write(r: Record, s: &[u8], out: &mut [u8]) -> Written
         return Written::Refused(ILL_SHAPED, 0);
     }
     let sizes = sizes_of(s, r);
-    if 8192 < sizes.whole {
+    let size = sizes.whole;
+    let room = out.len();
+    if 8192 < size {
         return Written::Refused(ENCODING_TOO_LONG, 0);
     }
-    if out.len() < sizes.whole {
+    if room < size {
         return Written::Refused(OUTPUT_SHORT, 0);
     }
     Written::Wrote(put_extension(out, s, r, sizes))

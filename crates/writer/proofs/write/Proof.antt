@@ -29,7 +29,7 @@ sizes-of-requires c κs = search needs
 
 returns-3 : tie.Need-returns-3
 returns-3 c =
-    let z = c .before .before in
+    let z = c .before in
     let p = z .before .before in
     let w = p .before .before in
     let a = w .before .before .before .args in
@@ -37,8 +37,8 @@ returns-3 c =
 
 returns-4 : tie.Need-returns-4
 returns-4 c =
-    let l = c .before .before in
-    let z = l .before .before in
+    let l = c .before in
+    let z = l .before in
     let p = z .before .before in
     let w = p .before .before in
     let a = w .before .before .before .args in
@@ -54,8 +54,8 @@ returns-5 : tie.Need-returns-5
 returns-5 c =
     let x = c .before .before in
     let o = x .before .before in
-    let l = o .before .before in
-    let z = l .before .before in
+    let l = o .before in
+    let z = l .before in
     let p = z .before .before in
     let w = p .before .before in
     let a = w .before .before .before .args in
