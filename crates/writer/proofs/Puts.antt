@@ -1,16 +1,19 @@
 -- What each put function leaves, in plain variables: one write after another is one write, and an element is its header
 -- and then its content, whose size was found before. Assumes nothing.
 use mathlib.Core.Path.{_≡_, refl, sym, ap, _∙_}
-use mathlib.Core.Bool.{Bool, true, false}
+use mathlib.Core.Bool.{Bool, true, false, _&&_}
 use mathlib.Core.List.{List, [], _∷_, _++_, append-nil}
-use Prim.Native.Nat.{ℕ, suc, _+_, _-_, _<_, _≤_}
+use Prim.Native.Nat.{ℕ, zero, suc, _+_, _-_, _<_, _≤_}
 use native.Mathlib.Omega.{arith}
 use native.Mathlib.Numerals.{add-one}
 use lib.ListN.{length, take, drop, getD, set, length-append}
 use lib.Seq.{take-all, take-suc, set-at, length-take-le}
+use lib.Dec.{T, ltb, ltb→lt}
 use borrow.Author.Tests.{lt-ltb, le-leb}
+use denote.Enum.Declared.{tagOf}
+use types.Run.{OneOf}
 use Rattle.answer.specs.Answer.{Answer, got, guard, pick}
-use Rattle.answer.proofs.Logic.{by-le}
+use Rattle.answer.proofs.Logic.{and-left, and-right}
 use Rattle.answer.proofs.Answer.{got-inj, refused-got}
 use Rattle.codec.specs.Octets.{splice, left}
 use Rattle.codec.specs.Shortest.{integerOctets, lengthOctets}
@@ -21,19 +24,19 @@ use Rattle.codec.proofs.Splice.{splice-nothing, splice-one, splice-splice, leng
 use Rattle.der.specs.Write.{ofWritten, roomFor, headerWritten}
 use Rattle.der.specs.declared.write.Written.{Written}
 use Rattle.schema.specs.declared.Kind.{Kind}
+use Rattle.schema.proofs.Kind as kinds
 use Rattle.schema.specs.declared.Row.{Row}
-use Rattle.schema.specs.Table.{Row as TableRow, rows, rowAt}
-use Rattle.schema.proofs.Table.{above}
+use Rattle.schema.specs.Table.{Row as TableRow, row as tableRow, null, rows, rowAt}
 use Rattle.schema.specs.Rows.{ofKind, ofRow}
-use Rattle.schema.specs.Content.{nums, trust, Field, enumeratedElement, octetsElement, booleanElement, hashElement, rootContent, valueElement, fieldElement, listElement, keyDescription, encode}
-use Rattle.records.specs.declared.NumberSet.{NumberSet}
+use Rattle.schema.specs.Content.{Value, nums, trust, Field, field, enumeratedElement, octetsElement, booleanElement, hashElement, rootContent, valueElement, fieldElement, listElement, keyDescription, encode}
 use Rattle.records.specs.declared.RootOfTrust.{RootOfTrust}
 use Rattle.records.specs.declared.FieldList.{FieldList}
 use Rattle.records.specs.declared.Record.{Record}
-use Rattle.records.specs.Content.{octetsAt, partOf, membersOf, rootOf, setAt, valueAt, fieldAt, upTo, fieldsOf, contentOf}
+use Rattle.records.specs.Content.{octetsAt, partOf, rootOf, valueAt, fieldAt, upTo, fieldsOf, contentOf}
+use Rattle.writer.specs.Plain.{plainValue}
 use Rattle.writer.specs.Size.{capped, Sized, securityOctets, headOctets}
-use Rattle.writer.specs.Put.{Puts, fieldOf}
-use Rattle.writer.proofs.Sizes.{chain-append, capped-same, capped-twice, Head, eight-is}
+use Rattle.writer.specs.Put.{Puts}
+use Rattle.writer.proofs.Sizes.{chain-append, capped-same, capped-twice, plain-null, row-field, Head, eight-is}
 
 -- ---- one after another
 
@@ -232,50 +235,50 @@ pub root-put : {old mid new : List ℕ} {p q r : ℕ} (s : List ℕ) (t : RootOf
 unfolding valueElement
 root-put s t b c e f = around 1 16 b (rootContent (rootOf s t)) c e f
 
--- ---- a value, by its row's kind
+-- ---- a value that is neither a set nor 704, by its kind
 
-module _ (l : FieldList) (s : List ℕ) (n k : ℕ) (kind : Kind) (old : List ℕ) (p : ℕ) (new : List ℕ) (q : ℕ) where
-  abbrev pub Valued : Type 0
-  Valued = Puts old p (valueElement (valueAt l s n (ofKind kind) k)) new q
+module _ (s : List ℕ) (kind : Kind) (value size : ℕ) (old : List ℕ) (p : ℕ) (new : List ℕ) (q : ℕ) where
+  abbrev Valued : Type 0
+  Valued = Puts old p (valueElement (plainValue s (ofKind kind) value size)) new q
 
-  pub value-set : kind ≡ Kind.Set → (g : NumberSet) → g ≡ setAt l n → Puts old p (valueElement (nums (membersOf g))) new q → Valued
-  unfolding valueAt
-  value-set e g d h = rw (e, ← d) h
-
-  pub value-number32 : kind ≡ Kind.Number32 → Puts old p (integerElement (getD (l .values) k 0)) new q → Valued
-  unfolding valueElement valueAt
+  pub value-number32 : kind ≡ Kind.Number32 → Puts old p (integerElement value) new q → Valued
+  unfolding valueElement plainValue
   value-number32 e h = rw e h
 
-  pub value-number64 : kind ≡ Kind.Number64 → Puts old p (integerElement (getD (l .values) k 0)) new q → Valued
-  unfolding valueElement valueAt
+  pub value-number64 : kind ≡ Kind.Number64 → Puts old p (integerElement value) new q → Valued
+  unfolding valueElement plainValue
   value-number64 e h = rw e h
 
-  pub value-null : kind ≡ Kind.Null → (0 ≤ 8192 → Puts old p (headerOctets (identifier 0 5) 0) new q) → Valued
-  unfolding valueElement valueAt
-  value-null e h = rw e (element-put 0 5 0 [] refl h (nothing new q))
-
-  pub value-octets : kind ≡ Kind.Octets → Puts old p (octetsElement (octetsAt s (getD (l .values) k 0) (getD (l .sizes) k 0))) new q → Valued
-  unfolding valueElement valueAt
+  pub value-octets : kind ≡ Kind.Octets → Puts old p (octetsElement (octetsAt s value size)) new q → Valued
+  unfolding valueElement plainValue
   value-octets e h = rw e h
 
-  pub value-root : kind ≡ Kind.Root → Puts old p (valueElement (trust (rootOf s (l .root)))) new q → Valued
-  unfolding valueAt
-  value-root e h = rw e h
+  pub value-null : OneOf (0 ∷ 3 ∷ 5 ∷ []) (tagOf kinds.the-type kind) → (0 ≤ 8192 → Puts old p (headerOctets (identifier 0 5) 0) new q) → Valued
+  unfolding valueElement
+  value-null o h = rw (plain-null s kind value size o) (element-put 0 5 0 [] refl h (nothing new q))
 
 -- ---- the fields of a list
 
--- a row's number takes an identifier of at most three octets
-row-number : (k : ℕ) → k < 42 → rowAt k .number < 16384
+-- a row's number takes an identifier of at most three octets: one computed test of the table
+abbrev small : List TableRow → Bool
+small [] = true
+small (r ∷ rs) = ltb (r .number) 16384 && small rs
+
+small-at : (l : List TableRow) (k : ℕ) (d : TableRow) → T (small l) → d .number < 16384 → getD l k d .number < 16384
+small-at [] k d t h = h
+small-at (r ∷ rs) zero d t h = ltb→lt (r .number) 16384 (and-left (ltb (r .number) 16384) _ t)
+small-at (r ∷ rs) (suc k) d t h = small-at rs k d (and-right (ltb (r .number) 16384) _ t) h
+
+pub field-number : (row : Row) (k : ℕ) → ofRow row ≡ rowAt k → row .number < 16384
 unfolding rows
-row-number k h = by-le k 40 (λ g. omega (arith, above k 41 (omega arith) (omega arith))) (λ g. let z : k ≡ 41 = omega arith in rw z (omega arith))
+field-number row k d =
+    let e : row .number ≡ rowAt k .number = ap (λ (x : TableRow). x .number) d in
+    rw e (small-at rows k (tableRow 0 null 1 0) tt (omega arith))
 
-pub field-number : (row : Row) (k : ℕ) → k < 42 → ofRow row ≡ rowAt k → row .number < 16384
-field-number row k h d = let e : row .number ≡ rowAt k .number = ap (λ (x : TableRow). x .number) d in rw e (row-number k h)
-
-pub field-put : {old mid new : List ℕ} {p q r : ℕ} (l : FieldList) (s : List ℕ) (k b : ℕ) (row : Row) → ofRow row ≡ rowAt k → Sized (valueElement (valueAt l s (row .number) (ofKind (row .kind)) k)) b
-    → (b ≤ 8192 → Puts old p (headerOctets (identifier 5 (row .number)) b) mid q) → Valued l s (row .number) k (row .kind) mid q new r → Puts old p (fieldElement (fieldOf l s k)) new r
+pub field-put : {old mid new : List ℕ} {p q r : ℕ} (n b : ℕ) (x : Value) → Sized (valueElement x) b → (b ≤ 8192 → Puts old p (headerOctets (identifier 5 n) b) mid q)
+    → Puts mid q (valueElement x) new r → Puts old p (fieldElement (field n x)) new r
 unfolding fieldElement
-field-put l s k b row d c e f = rw (← d) (around 5 (row .number) b _ c e f)
+field-put n b x c e f = around 5 n b (valueElement x) c e f
 
 module _ (l : FieldList) (s : List ℕ) where
   -- the fields of the rows before the k-th are put
@@ -286,9 +289,10 @@ module _ (l : FieldList) (s : List ℕ) where
   unfolding upTo
   fields-start old p = nothing old p
 
-  pub fields-more : (k : ℕ) {old mid new : List ℕ} {p q r : ℕ} → getD (l .present) k false ≡ true → Listed k old p mid q → Puts mid q (fieldElement (fieldOf l s k)) new r → Listed (k + 1) old p new r
+  pub fields-more : (k : ℕ) {old mid new : List ℕ} {p q r : ℕ} (row : Row) (x : Value) → getD (l .present) k false ≡ true → ofRow row ≡ rowAt k → x ≡ valueAt l s (row .number) (ofKind (row .kind)) k
+      → Listed k old p mid q → Puts mid q (fieldElement (field (row .number) x)) new r → Listed (k + 1) old p new r
   unfolding upTo fieldAt pick
-  fields-more k h e f = rw (add-one, h) (chain-more fieldElement (upTo (fieldAt l s) k) (fieldOf l s k) e f)
+  fields-more k row x h d g e f = rw (add-one, h, ← row-field l s k row x d g) (chain-more fieldElement (upTo (fieldAt l s) k) (field (row .number) x) e f)
 
   pub fields-skip : (k : ℕ) {old new : List ℕ} {p q : ℕ} → getD (l .present) k false ≡ false → Listed k old p new q → Listed (k + 1) old p new q
   unfolding upTo fieldAt pick

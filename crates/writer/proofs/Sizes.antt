@@ -2,6 +2,7 @@
 -- is cut at 8,193 on the way is the sum cut at the end. Assumes nothing.
 use mathlib.Core.Path.{_≡_, refl, sym, ap, _∙_}
 use mathlib.Core.Bool.{Bool, true, false}
+use mathlib.Core.Logic.{inl, inr}
 use mathlib.Core.List.{List, [], _∷_, _++_, append-assoc, append-nil}
 use Prim.Native.Nat.{ℕ, _+_, _-_, _<_, _≤_}
 use native.Mathlib.Omega.{arith}
@@ -9,6 +10,8 @@ use native.Mathlib.Numerals.{add-one}
 use native.Mathlib.Nat.{add-comm}
 use lib.ListN.{length, take, drop, getD, length-append, length-drop, drop-of-length-le}
 use lib.Seq.{take-all, take-nil, take-suc}
+use denote.Enum.Declared.{tagOf}
+use types.Run.{OneOf}
 use Rattle.answer.specs.Answer.{pick}
 use Rattle.answer.proofs.Logic.{by-le}
 use Rattle.codec.specs.Shortest.{integerSize, integerOctets, lengthOctets}
@@ -19,14 +22,16 @@ use Rattle.codec.proofs.Shortest.{length-integerOctets, length-short}
 use Rattle.codec.proofs.Header.{one-octet, two-octets, three-octets}
 use Rattle.schema.specs.declared.Kind.{Kind}
 use Rattle.schema.specs.declared.Row.{Row}
+use Rattle.schema.proofs.Kind as kinds
 use Rattle.schema.specs.Table.{rowAt}
 use Rattle.schema.specs.Rows.{ofKind, ofRow}
-use Rattle.schema.specs.Content.{enumeratedElement, octetsElement, booleanElement, hashElement, rootContent, valueElement, fieldElement, listElement, keyDescription, encode}
+use Rattle.schema.specs.Content.{Value, nul, nums, trust, field, enumeratedElement, octetsElement, booleanElement, hashElement, rootContent, valueElement, fieldElement, listElement, keyDescription, encode}
 use Rattle.records.specs.declared.NumberSet.{NumberSet}
 use Rattle.records.specs.declared.RootOfTrust.{RootOfTrust}
 use Rattle.records.specs.declared.FieldList.{FieldList}
 use Rattle.records.specs.declared.Record.{Record}
 use Rattle.records.specs.Content.{octetsAt, partOf, membersOf, rootOf, setAt, valueAt, fieldAt, upTo, fieldsOf, contentOf}
+use Rattle.writer.specs.Plain.{plainValue}
 use Rattle.writer.specs.Size.{capped, elementSize, Sized, securityOctets, headOctets}
 
 -- ---- a part of the bytes, cut at their end
@@ -157,6 +162,10 @@ module _ (m : List ℕ) where
       let z : take i m ≡ take k m = take-all i m (omega arith) ∙ sym (take-all k m (omega arith)) in
       rw z at e
 
+pub set-sized : (ms : List ℕ) (m r : ℕ) → Sized (chainOctets integerElement ms) m → r ≡ elementSize 17 m → Sized (valueElement (nums ms)) r
+unfolding valueElement
+set-sized ms m r e q = around 1 17 m r (chainOctets integerElement ms) e q
+
 -- ---- the root of trust
 
 boolean-sized : (b : Bool) → Sized (booleanElement b) 3
@@ -179,37 +188,79 @@ module _ (s : List ℕ) (t : RootOfTrust) (k z locked fixed : ℕ) (e : Sized (o
   unfolding rootContent hashElement pick
   root-plain h = rw (h, append-nil) (simp append-assoc at root-fixed)
 
--- ---- a value, by its row's kind
+pub root-sized : (s : List ℕ) (t : RootOfTrust) (m r : ℕ) → Sized (rootContent (rootOf s t)) m → r ≡ elementSize 16 m → Sized (valueElement (trust (rootOf s t))) r
+unfolding valueElement
+root-sized s t m r e q = around 1 16 m r (rootContent (rootOf s t)) e q
 
-module _ (l : FieldList) (s : List ℕ) (n k : ℕ) (kind : Kind) (r : ℕ) where
-  abbrev pub Valued : Type 0
-  Valued = Sized (valueElement (valueAt l s n (ofKind kind) k)) r
+-- ---- a value that is neither a set nor 704, by its kind
 
-  pub value-set : kind ≡ Kind.Set → (g : NumberSet) (m : ℕ) → g ≡ setAt l n → Sized (chainOctets integerElement (membersOf g)) m → r ≡ elementSize 17 m → Valued
-  unfolding valueElement valueAt
-  value-set e g m d f q = rw (e, ← d) (around 1 17 m r (chainOctets integerElement (membersOf g)) f q)
+-- all kinds but those of numbers and octets stand as NULL
+pub plain-null : (s : List ℕ) (kind : Kind) (value size : ℕ) → OneOf (0 ∷ 3 ∷ 5 ∷ []) (tagOf kinds.the-type kind) → plainValue s (ofKind kind) value size ≡ nul
+unfolding plainValue
+plain-null s Kind.Set value size o = refl
+plain-null s Kind.Number32 value size (inl e) = absurd (omega arith)
+plain-null s Kind.Number32 value size (inr (inl e)) = absurd (omega arith)
+plain-null s Kind.Number32 value size (inr (inr e)) = absurd (omega arith)
+plain-null s Kind.Number64 value size (inl e) = absurd (omega arith)
+plain-null s Kind.Number64 value size (inr (inl e)) = absurd (omega arith)
+plain-null s Kind.Number64 value size (inr (inr e)) = absurd (omega arith)
+plain-null s Kind.Null value size o = refl
+plain-null s Kind.Octets value size (inl e) = absurd (omega arith)
+plain-null s Kind.Octets value size (inr (inl e)) = absurd (omega arith)
+plain-null s Kind.Octets value size (inr (inr e)) = absurd (omega arith)
+plain-null s Kind.Root value size o = refl
 
-  pub value-number32 : kind ≡ Kind.Number32 → Sized (integerElement (getD (l .values) k 0)) r → Valued
-  unfolding valueElement valueAt
+module _ (s : List ℕ) (kind : Kind) (value size r : ℕ) where
+  abbrev Valued : Type 0
+  Valued = Sized (valueElement (plainValue s (ofKind kind) value size)) r
+
+  pub value-number32 : kind ≡ Kind.Number32 → Sized (integerElement value) r → Valued
+  unfolding valueElement plainValue
   value-number32 e f = rw e f
 
-  pub value-number64 : kind ≡ Kind.Number64 → Sized (integerElement (getD (l .values) k 0)) r → Valued
-  unfolding valueElement valueAt
+  pub value-number64 : kind ≡ Kind.Number64 → Sized (integerElement value) r → Valued
+  unfolding valueElement plainValue
   value-number64 e f = rw e f
 
-  pub value-null : kind ≡ Kind.Null → r ≡ 2 → Valued
-  unfolding valueElement valueAt
-  value-null e q = rw (e, q) (record { is = rw (short-length 0 5 [] (omega arith) (omega arith)) refl })
-
-  pub value-octets : kind ≡ Kind.Octets → Sized (octetsElement (octetsAt s (getD (l .values) k 0) (getD (l .sizes) k 0))) r → Valued
-  unfolding valueElement valueAt
+  pub value-octets : kind ≡ Kind.Octets → Sized (octetsElement (octetsAt s value size)) r → Valued
+  unfolding valueElement plainValue
   value-octets e f = rw e f
 
-  pub value-root : kind ≡ Kind.Root → (m : ℕ) → Sized (rootContent (rootOf s (l .root))) m → r ≡ elementSize 16 m → Valued
-  unfolding valueElement valueAt
-  value-root e m f q = rw e (around 1 16 m r (rootContent (rootOf s (l .root))) f q)
+  pub value-null : OneOf (0 ∷ 3 ∷ 5 ∷ []) (tagOf kinds.the-type kind) → r ≡ 2 → Valued
+  unfolding valueElement
+  value-null o q = rw (plain-null s kind value size o, q) (record { is = rw (short-length 0 5 [] (omega arith) (omega arith)) refl })
 
 -- ---- the fields of a list
+
+-- what the value of a row is, by the kind that its row has
+module _ (l : FieldList) (s : List ℕ) (n k : ℕ) where
+  pub set-value : (kind : Kind) (g : NumberSet) → kind ≡ Kind.Set → g ≡ setAt l n → nums (membersOf g) ≡ valueAt l s n (ofKind kind) k
+  unfolding valueAt
+  set-value kind g e d = rw (e, d) refl
+
+  pub root-value : (kind : Kind) → kind ≡ Kind.Root → trust (rootOf s (l .root)) ≡ valueAt l s n (ofKind kind) k
+  unfolding valueAt
+  root-value kind e = rw e refl
+
+  pub plain-value : (kind : Kind) → OneOf (1 ∷ 2 ∷ 3 ∷ 4 ∷ []) (tagOf kinds.the-type kind) → plainValue s (ofKind kind) (getD (l .values) k 0) (getD (l .sizes) k 0) ≡ valueAt l s n (ofKind kind) k
+  unfolding valueAt plainValue
+  plain-value Kind.Set (inl e) = absurd (omega arith)
+  plain-value Kind.Set (inr (inl e)) = absurd (omega arith)
+  plain-value Kind.Set (inr (inr (inl e))) = absurd (omega arith)
+  plain-value Kind.Set (inr (inr (inr e))) = absurd (omega arith)
+  plain-value Kind.Number32 o = refl
+  plain-value Kind.Number64 o = refl
+  plain-value Kind.Null o = refl
+  plain-value Kind.Octets o = refl
+  plain-value Kind.Root (inl e) = absurd (omega arith)
+  plain-value Kind.Root (inr (inl e)) = absurd (omega arith)
+  plain-value Kind.Root (inr (inr (inl e))) = absurd (omega arith)
+  plain-value Kind.Root (inr (inr (inr e))) = absurd (omega arith)
+
+-- the field of a row, from its value
+pub row-field : (l : FieldList) (s : List ℕ) (k : ℕ) (row : Row) (x : Value) → ofRow row ≡ rowAt k → x ≡ valueAt l s (row .number) (ofKind (row .kind)) k
+    → field (row .number) x ≡ field (rowAt k .number) (valueAt l s (rowAt k .number) (rowAt k .kind) k)
+row-field l s k row x d e = rw (e, ← d) refl
 
 module _ (l : FieldList) (s : List ℕ) where
   -- the fields of the rows before the k-th are counted
@@ -220,11 +271,11 @@ module _ (l : FieldList) (s : List ℕ) where
   unfolding upTo
   fields-start = nothing
 
-  pub fields-more : (k n v e r : ℕ) (row : Row) → getD (l .present) k false ≡ true → ofRow row ≡ rowAt k → Counted k n → Valued l s (row .number) k (row .kind) v
-      → e ≡ elementSize (row .number) v → r ≡ capped (n + e) → Counted (k + 1) r
+  pub fields-more : (k n v e r : ℕ) (row : Row) (x : Value) → getD (l .present) k false ≡ true → ofRow row ≡ rowAt k → x ≡ valueAt l s (row .number) (ofKind (row .kind)) k → Counted k n
+      → Sized (valueElement x) v → e ≡ elementSize (row .number) v → r ≡ capped (n + e) → Counted (k + 1) r
   unfolding upTo fieldAt pick fieldElement
-  fields-more k n v e r row h d c f q q₂ =
-      rw (add-one, h, ← d) (chain-more fieldElement (upTo (fieldAt l s) k) _ n e r c (around 5 (row .number) v e _ f q) q₂)
+  fields-more k n v e r row x h d g c f q q₂ =
+      rw (add-one, h, ← row-field l s k row x d g) (chain-more fieldElement (upTo (fieldAt l s) k) _ n e r c (around 5 (row .number) v e (valueElement x) f q) q₂)
 
   pub fields-skip : (k n : ℕ) → getD (l .present) k false ≡ false → Counted k n → Counted (k + 1) n
   unfolding upTo fieldAt pick

@@ -3,8 +3,10 @@
 use crate::part::octets_of;
 use crate::size::Sizes;
 use crate::size::members_size;
+use crate::size::plain_size;
+use crate::size::root_content_size;
 use crate::size::root_size;
-use crate::size::value_size;
+use crate::size::set_size;
 use der::write;
 use der::write::Written;
 use records::FieldList;
@@ -15,17 +17,17 @@ use records::RootOfTrust;
 use records::Security;
 use records::shape::set_at;
 use schema::Kind;
-use schema::Row;
 ghost use mathlib.Core.List.{[], _∷_};
 ghost use Prim.Native.Nat.{_<_, _≤_};
 ghost use Rattle.codec.specs.Integer.{integerElement};
 ghost use Rattle.codec.specs.Header.{identifier, headerOctets};
 ghost use Rattle.codec.specs.Element.{chainOctets};
 ghost use Rattle.schema.specs.Rows.{ofKind};
-ghost use Rattle.schema.specs.Content.{enumeratedElement, octetsElement, booleanElement, rootContent, valueElement, fieldElement, listElement, encode, nums, trust};
-ghost use Rattle.records.specs.Content.{partOf, membersOf, rootOf, valueAt, fieldsOf, contentOf};
+ghost use Rattle.schema.specs.Content.{enumeratedElement, octetsElement, booleanElement, rootContent, valueElement, fieldElement, listElement, encode, nums, trust, field};
+ghost use Rattle.records.specs.Content.{partOf, membersOf, rootOf, fieldsOf, contentOf};
+ghost use Rattle.writer.specs.Plain.{plainValue};
 ghost use Rattle.writer.specs.Size.{Sized, securityOctets, headOctets, Measured};
-ghost use Rattle.writer.specs.Put.{fieldOf, Puts};
+ghost use Rattle.writer.specs.Put.{Puts};
 
 // The header of an element with size content octets.
 fn put_header(out: &mut [u8], at: usize, form: u8, number: usize, size: usize) -> usize
@@ -151,47 +153,70 @@ fn put_root_content(out: &mut [u8], at: usize, s: &[u8], t: RootOfTrust) -> usiz
 fn put_root(out: &mut [u8], at: usize, s: &[u8], t: RootOfTrust) -> usize
     ensures { λ r. ⌜ Puts (now (out .entry)) at (valueElement (trust (rootOf (now (s .entry)) t))) (now (out .exit)) r ⌝ }
 {
-    let size = root_size(s, t);
+    let size = root_content_size(s, t);
     let next = put_header(out, at, 1, 16, size);
     put_root_content(out, next, s, t)
 }
 
-// The value of a row of a list, by its kind.
-fn put_value(out: &mut [u8], at: usize, s: &[u8], l: FieldList, place: usize, row: Row) -> usize
-    requires { ⌜ place < 42 ⌝ }
-    ensures { λ r. ⌜ Puts (now (out .entry)) at (valueElement (valueAt l (now (s .entry)) (row .number) (ofKind (row .kind)) place)) (now (out .exit)) r ⌝ }
+// The value of a field that is neither a set nor 704.
+fn put_plain(out: &mut [u8], at: usize, s: &[u8], kind: Kind, value: u64, size: u64) -> usize
+    ensures { λ r. ⌜ Puts (now (out .entry)) at (valueElement (plainValue (now (s .entry)) (ofKind kind) value size)) (now (out .exit)) r ⌝ }
 {
-    let kind = row.kind;
     match kind {
-        Kind::Set => put_set(out, at, set_at(l, row.number)),
-        Kind::Number32 => put_integer(out, at, l.values[place]),
-        Kind::Number64 => put_integer(out, at, l.values[place]),
-        Kind::Null => put_header(out, at, 0, 5, 0),
+        Kind::Number32 => put_integer(out, at, value),
+        Kind::Number64 => put_integer(out, at, value),
         Kind::Octets => put_part(
             out,
             at,
             s,
             Part {
-                start: l.values[place] as usize,
-                len: l.sizes[place] as usize,
+                start: value as usize,
+                len: size as usize,
             },
         ),
-        Kind::Root => put_root(out, at, s, l.root),
+        _ => put_header(out, at, 0, 5, 0),
     }
 }
 
-// The field of a row: its context tag around its value.
-fn put_field(out: &mut [u8], at: usize, s: &[u8], l: FieldList, place: usize) -> usize
-    requires { ⌜ place < 42 ⌝ }
-    ensures { λ r. ⌜ Puts (now (out .entry)) at (fieldElement (fieldOf l (now (s .entry)) place)) (now (out .exit)) r ⌝ }
+// The context tag of a field around a set.
+fn put_set_field(out: &mut [u8], at: usize, number: usize, g: NumberSet) -> usize
+    requires { ⌜ number < 16384 ⌝ }
+    ensures { λ r. ⌜ Puts (now (out .entry)) at (fieldElement (field number (nums (membersOf g)))) (now (out .exit)) r ⌝ }
 {
-    let row = schema::row_at(place);
-    let size = value_size(s, l, place, row);
-    let next = put_header(out, at, 5, row.number, size);
-    put_value(out, next, s, l, place, row)
+    let size = set_size(g);
+    let next = put_header(out, at, 5, number, size);
+    put_set(out, next, g)
 }
 
-// The present fields of a list.
+// The context tag of a field around a root of trust.
+fn put_root_field(out: &mut [u8], at: usize, number: usize, s: &[u8], t: RootOfTrust) -> usize
+    requires { ⌜ number < 16384 ⌝ }
+    ensures { λ r. ⌜ Puts (now (out .entry)) at (fieldElement (field number (trust (rootOf (now (s .entry)) t)))) (now (out .exit)) r ⌝ }
+{
+    let size = root_size(s, t);
+    let next = put_header(out, at, 5, number, size);
+    put_root(out, next, s, t)
+}
+
+// The context tag of a field around any other value.
+fn put_plain_field(
+    out: &mut [u8],
+    at: usize,
+    number: usize,
+    s: &[u8],
+    kind: Kind,
+    value: u64,
+    size: u64,
+) -> usize
+    requires { ⌜ number < 16384 ⌝ }
+    ensures { λ r. ⌜ Puts (now (out .entry)) at (fieldElement (field number (plainValue (now (s .entry)) (ofKind kind) value size))) (now (out .exit)) r ⌝ }
+{
+    let body = plain_size(s, kind, value, size);
+    let next = put_header(out, at, 5, number, body);
+    put_plain(out, next, s, kind, value, size)
+}
+
+// The present fields of a list. The list is large: only a set's field copies it.
 fn put_fields(out: &mut [u8], at: usize, s: &[u8], l: FieldList) -> usize
     ensures { λ r. ⌜ Puts (now (out .entry)) at (chainOctets fieldElement (fieldsOf l (now (s .entry)))) (now (out .exit)) r ⌝ }
 {
@@ -199,8 +224,30 @@ fn put_fields(out: &mut [u8], at: usize, s: &[u8], l: FieldList) -> usize
     let mut place: usize = 0;
     while place < 42 {
         if l.present[place] {
-            p = put_field(out, p, s, l, place);
-            place += 1;
+            let row = schema::row_at(place);
+            let kind = row.kind;
+            match kind {
+                Kind::Set => {
+                    p = put_set_field(out, p, row.number, set_at(l, row.number));
+                    place += 1;
+                }
+                Kind::Root => {
+                    p = put_root_field(out, p, row.number, s, l.root);
+                    place += 1;
+                }
+                _ => {
+                    p = put_plain_field(
+                        out,
+                        p,
+                        row.number,
+                        s,
+                        kind,
+                        l.values[place],
+                        l.sizes[place],
+                    );
+                    place += 1;
+                }
+            }
         } else {
             place += 1;
         }

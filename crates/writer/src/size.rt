@@ -12,14 +12,14 @@ use records::RootOfTrust;
 use records::Security;
 use records::shape::set_at;
 use schema::Kind;
-use schema::Row;
 ghost use mathlib.Core.Path.{_≡_};
-ghost use Prim.Native.Nat.{_+_, _<_};
+ghost use Prim.Native.Nat.{_+_};
 ghost use Rattle.codec.specs.Integer.{integerElement};
 ghost use Rattle.codec.specs.Element.{chainOctets};
 ghost use Rattle.schema.specs.Rows.{ofKind};
-ghost use Rattle.schema.specs.Content.{enumeratedElement, octetsElement, rootContent, valueElement, fieldElement};
-ghost use Rattle.records.specs.Content.{partOf, membersOf, rootOf, valueAt, fieldsOf};
+ghost use Rattle.schema.specs.Content.{enumeratedElement, octetsElement, rootContent, valueElement, fieldElement, nums, trust};
+ghost use Rattle.records.specs.Content.{partOf, membersOf, rootOf, fieldsOf};
+ghost use Rattle.writer.specs.Plain.{plainValue};
 ghost use Rattle.writer.specs.Size.{capped, elementSize, Sized, securityOctets, headOctets, Measured};
 
 // Of the fields of each list and of the eight elements, without their headers; and of the whole encoding.
@@ -85,8 +85,14 @@ pub(crate) fn members_size(g: NumberSet) -> usize
     n
 }
 
+pub(crate) fn set_size(g: NumberSet) -> usize
+    ensures { λ n. ⌜ Sized (valueElement (nums (membersOf g))) n ⌝ }
+{
+    element_size(17, members_size(g))
+}
+
 // What RootOfTrust's SEQUENCE holds.
-pub(crate) fn root_size(s: &[u8], t: RootOfTrust) -> usize
+pub(crate) fn root_content_size(s: &[u8], t: RootOfTrust) -> usize
     ensures { λ n. ⌜ Sized (rootContent (rootOf (now (s .entry)) t)) n ⌝ }
 {
     let key = part_size(s, t.key);
@@ -98,30 +104,32 @@ pub(crate) fn root_size(s: &[u8], t: RootOfTrust) -> usize
     fixed
 }
 
-// The value of a row of a list, by its kind.
-pub(crate) fn value_size(s: &[u8], l: FieldList, place: usize, row: Row) -> usize
-    requires { ⌜ place < 42 ⌝ }
-    ensures { λ n. ⌜ Sized (valueElement (valueAt l (now (s .entry)) (row .number) (ofKind (row .kind)) place)) n ⌝ }
+pub(crate) fn root_size(s: &[u8], t: RootOfTrust) -> usize
+    ensures { λ n. ⌜ Sized (valueElement (trust (rootOf (now (s .entry)) t))) n ⌝ }
 {
-    let kind = row.kind;
+    element_size(16, root_content_size(s, t))
+}
+
+// The value of a field that is neither a set nor 704.
+pub(crate) fn plain_size(s: &[u8], kind: Kind, value: u64, size: u64) -> usize
+    ensures { λ n. ⌜ Sized (valueElement (plainValue (now (s .entry)) (ofKind kind) value size)) n ⌝ }
+{
     match kind {
-        Kind::Set => element_size(17, members_size(set_at(l, row.number))),
-        Kind::Number32 => number_size(l.values[place]),
-        Kind::Number64 => number_size(l.values[place]),
-        Kind::Null => 2,
+        Kind::Number32 => number_size(value),
+        Kind::Number64 => number_size(value),
         Kind::Octets => part_size(
             s,
             Part {
-                start: l.values[place] as usize,
-                len: l.sizes[place] as usize,
+                start: value as usize,
+                len: size as usize,
             },
         ),
-        Kind::Root => element_size(16, root_size(s, l.root)),
+        _ => 2,
     }
 }
 
-// The present fields of a list, without the list's header.
-pub(crate) fn fields_size(s: &[u8], l: FieldList) -> usize
+// The present fields of a list, without the list's header. The list is large: only a set's field copies it.
+fn fields_size(s: &[u8], l: FieldList) -> usize
     ensures { λ n. ⌜ Sized (chainOctets fieldElement (fieldsOf l (now (s .entry)))) n ⌝ }
 {
     let mut n: usize = 0;
@@ -129,8 +137,22 @@ pub(crate) fn fields_size(s: &[u8], l: FieldList) -> usize
     while place < 42 {
         if l.present[place] {
             let row = schema::row_at(place);
-            n = add(n, element_size(row.number, value_size(s, l, place, row)));
-            place += 1;
+            let kind = row.kind;
+            match kind {
+                Kind::Set => {
+                    n = add(n, element_size(row.number, set_size(set_at(l, row.number))));
+                    place += 1;
+                }
+                Kind::Root => {
+                    n = add(n, element_size(row.number, root_size(s, l.root)));
+                    place += 1;
+                }
+                _ => {
+                    let value = plain_size(s, kind, l.values[place], l.sizes[place]);
+                    n = add(n, element_size(row.number, value));
+                    place += 1;
+                }
+            }
         } else {
             place += 1;
         }

@@ -4,8 +4,8 @@ use borrow.Author.Needs.{needs}
 use Rattle.writer.proofs.put.put_root.Statement.{statement}
 use Rattle.writer.proofs.put.put_root.Tie as tie
 
-root-size-requires : tie.Need-root-size-requires
-root-size-requires c κs = search needs
+root-content-size-requires : tie.Need-root-content-size-requires
+root-content-size-requires c κs = search needs
 
 put-header-requires : tie.Need-put-header-requires
 put-header-requires c κs = search needs
@@ -22,4 +22,4 @@ returns c = search root-put
 pub put-root-spec : {M : Type 1} → statement M
 put-root-spec =
     tie.close
-    (tie.spec root-size-requires put-header-requires put-root-content-requires same-length returns)
+    (tie.spec root-content-size-requires put-header-requires put-root-content-requires same-length returns)
