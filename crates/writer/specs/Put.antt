@@ -1,5 +1,5 @@
 -- What putting octets at a place of an output leaves, for octets that a writer would put there: no more than 8,192, and
--- no more than the output has room for. Of others nothing is said, and none are put.
+-- no more than the output has room for. Of others nothing is said.
 use mathlib.Core.Path.{_≡_}
 use mathlib.Core.List.{List}
 use Prim.Native.Nat.{ℕ, _+_, _≤_}

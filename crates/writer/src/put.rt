@@ -1,5 +1,5 @@
 // The octets of each piece of an encoding, put at a place of a lent output. Each function answers the place after them.
-// The writer has found the size before, so what is put is known to fit; where it would not, nothing more is put.
+// The writer has found the size before, so that what is put fits; what becomes of octets that would not is left open.
 use crate::part::octets_of;
 use crate::size::Sizes;
 use crate::size::members_size;
@@ -93,10 +93,10 @@ fn put_bytes(out: &mut [u8], at: usize, t: &[u8]) -> usize
     if out.len() - at < n {
         return at;
     }
-    let mut i: usize = 0;
-    while i < n {
-        out[at + i] = t[i];
-        i += 1;
+    let mut k: usize = 0;
+    while k < n {
+        out[at + k] = t[k];
+        k += 1;
     }
     at + n
 }

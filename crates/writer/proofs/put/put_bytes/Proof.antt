@@ -1,4 +1,4 @@
--- `put_bytes` meets its contract. The invariant: the first i bytes are spliced in. Assumes nothing.
+-- `put_bytes` meets its contract. The invariant: the first k bytes are spliced in. Assumes nothing.
 use Prim.Native.Nat.{_-_, _≤_}
 use mathlib.Core.Path.{_≡_, refl}
 use lib.ListN.{length, take}
@@ -9,10 +9,10 @@ use Rattle.writer.proofs.put.put_bytes.Statement.{statement}
 use Rattle.writer.proofs.put.put_bytes.Tie as tie
 
 abbrev Inv-loop : tie.InvT-loop
-Inv-loop out₀ at t n i₀ out i = (i ≤ n) × (length out ≡ length out₀) × (out ≡ splice out₀ at (take i t))
+Inv-loop out₀ at t n k₀ out k = (k ≤ n) × (length out ≡ length out₀) × (out ≡ splice out₀ at (take k t))
 
 abbrev μ-loop : tie.MeasureT-loop
-μ-loop out₀ at t n i₀ out i = n - i
+μ-loop out₀ at t n k₀ out k = n - k
 
 returns : tie.Need-returns Inv-loop μ-loop
 returns c = search bytes-far
@@ -35,8 +35,8 @@ add-out c = search needs
 slice-write-out : tie.Need-slice-write-out Inv-loop μ-loop
 slice-write-out c = search needs
 
-add-i : tie.Need-add-i Inv-loop μ-loop
-add-i c = search needs
+add-k : tie.Need-add-k Inv-loop μ-loop
+add-k c = search needs
 
 loop-less : tie.Need-loop-less Inv-loop μ-loop
 loop-less c = search needs
@@ -66,7 +66,7 @@ put-bytes-spec =
     shared-slice-read-out
     add-out
     slice-write-out
-    add-i
+    add-k
     loop-less
     loop-again
     add-result
