@@ -25,8 +25,8 @@ def words(*numbers):
     return b"".join(n.to_bytes(8, "big") for n in numbers)
 
 
-# ---- a record as its encoding and as its listing. A part is [start, length] in the buffer; a set is its members, or its
-# count and its slots; an absent field has a fourth entry, and a boot hash that is not there may have a part all the same
+# ---- a record as its encoding and as its listing. A part is [start, length] in the buffer; a set is its members, or
+# its count and its slots; an absent field has a fourth entry; a boot hash that is not there may yet have a part
 
 def octets_at(part, buffer):
     return buffer[part[0] : part[0] + part[1]]
@@ -45,8 +45,8 @@ def value_octets(kind, value, buffer):
         return octets(octets_at(value, buffer))
     if kind == "rot":
         hashed = [] if value["hash"] is None else [octets(octets_at(value["hash"], buffer))]
-        return sequence(octets(octets_at(value["key"], buffer)), element(b"\x01", b"\xff" if value["locked"] else b"\x00"),
-                        enumerated(value["state"]), *hashed)
+        locked = element(b"\x01", b"\xff" if value["locked"] else b"\x00")
+        return sequence(octets(octets_at(value["key"], buffer)), locked, enumerated(value["state"]), *hashed)
     return integer(value)
 
 
@@ -121,7 +121,7 @@ def held(record):
             return value["state"] <= TOP32 and max(value["key"] + (value["hash"] or [])) <= TOP64
         return kind == "null" or value <= TOP64
 
-    return (all(number in TABLE and good(number, kind, value) for number, kind, value in record["software"] + record["hardware"])
+    return (all(field[0] in TABLE and good(*field) for field in record["software"] + record["hardware"])
             and max(record[name] for name in ("version", "level", "keymint", "kmlevel")) <= TOP32
             and max(record["challenge"] + record["unique"]) <= TOP64)
 
@@ -135,7 +135,8 @@ def case(name, record, buffer, room, want):
     if isinstance(want, int):
         stdout.append("%s: refused %d at 0 output kept\n" % (name, want))
     else:
-        stdout.append("%s: wrote %d %s rest kept\n%sas written\n" % (name, len(want), want.hex(), listing(record, buffer)))
+        stdout.append("%s: wrote %d %s rest kept\n" % (name, len(want), want.hex()))
+        stdout.append(listing(record, buffer) + "as written\n")
 
 
 # ---- the sample cases
@@ -200,8 +201,9 @@ for version, numbers in FIELDS.items():
     refused("all fields of version %d, no output" % version, told, 21, room=0)
     for n in TABLE:
         if n not in numbers:
-            refused("[%d] in version %d" % (n, version), record(version, hardware=[sample(version, n)]))
-            written("[%d] absent in version %d" % (n, version), record(version, hardware=[sample(version, n) + ["absent"]]))
+            field = sample(version, n)
+            refused("[%d] in version %d" % (n, version), record(version, hardware=[field]))
+            written("[%d] absent in version %d" % (n, version), record(version, hardware=[field + ["absent"]]))
 
 # versions and levels
 for version in (0, 5, 99, 101, 201, 299, 301, 400, TOP32):
@@ -240,11 +242,11 @@ for n in sorted(SETS):
 for version in FIELDS:
     for locked in (True, False):
         for state in range(4):
-            told = root(version, locked=locked, state=state)
-            written("704 locked %d state %d in version %d" % (locked, state, version), record(version, [[704, "rot", told]]))
+            told = record(version, [[704, "rot", root(version, locked=locked, state=state)]])
+            written("704 locked %d state %d in version %d" % (locked, state, version), told)
     refused("704 state 4 in version %d" % version, record(version, [[704, "rot", root(version, state=4)]]))
-    other = None if version >= 3 else [12, 5]
-    refused("704 with the other hash in version %d" % version, record(version, [[704, "rot", root(version, hash=other)]]))
+    other = root(version, hash=None if version >= 3 else [12, 5])
+    refused("704 with the other hash in version %d" % version, record(version, [[704, "rot", other]]))
 written("704 without hash, its part outside", record(2, [[704, "rot", root(2, spare=[TOP64, TOP64])]]))
 
 # parts: over each other, to the buffer's end, of no octets at its end, past it, around 2^64
@@ -262,8 +264,8 @@ for name, (part, inside) in PARTS.items():
     written("absent 709 %s" % name, record(hardware=[[709, "oct", part, "absent"]]))
 written("parts over each other", record(challenge=[0, 30], unique=[10, 30], software=[[709, "oct", [5, 30]]],
                                         hardware=[[709, "oct", [0, 40]], [710, "oct", [20, 20]]]))
-written("an empty buffer", record(challenge=[0, 0], unique=[0, 0], hardware=[[709, "oct", [0, 0]]]), b"")
-refused("an empty buffer and a part", record(challenge=[0, 0], unique=[0, 0], hardware=[[709, "oct", [0, 1]]]), buffer=b"")
+for name, size, case_of in (("an empty buffer", 0, written), ("an empty buffer and a part", 1, refused)):
+    case_of(name, record(challenge=[0, 0], unique=[0, 0], hardware=[[709, "oct", [0, size]]]), buffer=b"")
 
 # lengths of content: 127 is 7F, 128 is 81 80, 256 is 82 01 00
 LONG = bytes(n * 7 % 256 for n in range(9000))
@@ -297,7 +299,8 @@ def main():
     for data in records:
         places.append(head + len(tail))
         tail += data
-    stdin = words(len(cases)) + b"".join(words(room, names[name], len(name), places[k]) for name, room, k in cases) + tail
+    table = b"".join(words(room, names[name], len(name), places[k]) for name, room, k in cases)
+    stdin = words(len(cases)) + table + tail
     assert len(names) == len(cases) and len(stdin) <= 524288
     good = True
     for name, data in (("stdin", bytes(stdin)), ("stdout", "".join(stdout).encode())):

@@ -29,7 +29,8 @@ ghost use Rattle.writer.specs.Plain.{plainValue};
 ghost use Rattle.writer.specs.Size.{Sized, securityOctets, headOctets, Measured};
 ghost use Rattle.writer.specs.Put.{Puts};
 
-// The header of an element with size content octets.
+// The header of an element with size content octets. The form is class and bit 6 of the first octet: 0 for a universal
+// tag, 1 for one that holds elements, 5 for the context tag of a field.
 fn put_header(out: &mut [u8], at: usize, form: u8, number: usize, size: usize) -> usize
     requires { ⌜ (form < 8) × (number < 16384) ⌝ }
     ensures { λ r. ⌜ (size ≤ 8192 → Puts (now (out .entry)) at (headerOctets (identifier form number) size) (now (out .exit)) r) ⌝ }
