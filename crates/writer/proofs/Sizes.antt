@@ -8,8 +8,8 @@ use Prim.Native.Nat.{ℕ, _+_, _-_, _<_, _≤_}
 use native.Mathlib.Omega.{arith}
 use native.Mathlib.Numerals.{add-one}
 use native.Mathlib.Nat.{add-comm}
-use lib.ListN.{length, take, drop, getD, length-append, length-drop, drop-of-length-le}
-use lib.Seq.{take-all, take-nil, take-suc}
+use lib.ListN.{length, take, drop, getD, length-append}
+use lib.Seq.{take-all, take-suc}
 use denote.Enum.Declared.{tagOf}
 use types.Run.{OneOf}
 use Rattle.answer.specs.Answer.{pick}
@@ -33,20 +33,6 @@ use Rattle.records.specs.declared.Record.{Record}
 use Rattle.records.specs.Content.{octetsAt, partOf, membersOf, rootOf, setAt, valueAt, fieldAt, upTo, fieldsOf, contentOf}
 use Rattle.writer.specs.Plain.{plainValue}
 use Rattle.writer.specs.Size.{capped, elementSize, Sized, securityOctets, headOctets}
-
--- ---- a part of the bytes, cut at their end
-
-module _ (s : List ℕ) (start len : ℕ) where
-  pub part-past : length s ≤ start → take (length s - length s) (drop (length s) s) ≡ octetsAt s start len
-  part-past h =
-      let e : drop (length s) s ≡ [] = drop-of-length-le s {i = length s} (omega arith) in
-      rw (e, drop-of-length-le s h, take-nil (length s - length s), take-nil len) refl
-
-  pub part-cut : start < length s → length s - start ≤ len → take (length s - start) (drop start s) ≡ octetsAt s start len
-  part-cut h l = take-all (length s - start) (drop start s) (rw length-drop (omega arith)) ∙ sym (take-all len (drop start s) (rw length-drop l))
-
-  pub part-whole : take (start + len - start) (drop start s) ≡ octetsAt s start len
-  part-whole = let z : start + len - start ≡ len = omega arith in rw z refl
 
 -- ---- pieces
 

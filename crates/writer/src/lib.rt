@@ -1,5 +1,4 @@
 // A record as its one encoding (document 01, "Numbers of the reader and writer"), at the front of a lent output.
-mod part;
 mod put;
 mod size;
 

@@ -1,6 +1,5 @@
 // The octets of each piece of an encoding, put at a place of a lent output. Each function answers the place after them.
 // The writer has found the size before, so that what is put fits; what becomes of octets that would not is left open.
-use crate::part::octets_of;
 use crate::size::Sizes;
 use crate::size::members_size;
 use crate::size::plain_size;
@@ -15,6 +14,7 @@ use records::Part;
 use records::Record;
 use records::RootOfTrust;
 use records::Security;
+use records::octets::part_octets;
 use records::shape::set_at;
 use schema::Kind;
 ghost use mathlib.Core.List.{[], _∷_};
@@ -106,7 +106,7 @@ fn put_bytes(out: &mut [u8], at: usize, t: &[u8]) -> usize
 fn put_part(out: &mut [u8], at: usize, s: &[u8], p: Part) -> usize
     ensures { λ r. ⌜ Puts (now (out .entry)) at (octetsElement (partOf (now (s .entry)) p)) (now (out .exit)) r ⌝ }
 {
-    let t = octets_of(s, p);
+    let t = part_octets(s, p);
     let next = put_header(out, at, 0, 4, t.len());
     put_bytes(out, next, t)
 }

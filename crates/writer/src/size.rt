@@ -1,6 +1,5 @@
 // How many octets each piece of an encoding has, counted up to 8,193. Nothing here asks that a record be well-shaped:
 // sets are cut at their 16 slots and parts at the end of the buffer, as a record's content is.
-use crate::part::octets_of;
 use der::write::identifier_size;
 use der::write::integer_size;
 use der::write::length_size;
@@ -10,6 +9,7 @@ use records::Part;
 use records::Record;
 use records::RootOfTrust;
 use records::Security;
+use records::octets::part_octets;
 use records::shape::set_at;
 use schema::Kind;
 ghost use mathlib.Core.Path.{_≡_};
@@ -63,7 +63,7 @@ fn number_size(x: u64) -> usize
 fn part_size(s: &[u8], p: Part) -> usize
     ensures { λ n. ⌜ Sized (octetsElement (partOf (now (s .entry)) p)) n ⌝ }
 {
-    let t = octets_of(s, p);
+    let t = part_octets(s, p);
     element_size(4, t.len())
 }
 

@@ -4,8 +4,8 @@ use borrow.Author.Needs.{needs}
 use Rattle.writer.proofs.put.put_part.Statement.{statement}
 use Rattle.writer.proofs.put.put_part.Tie as tie
 
-octets-of-requires : tie.Need-octets-of-requires
-octets-of-requires c κs = search needs
+part-octets-requires : tie.Need-part-octets-requires
+part-octets-requires c κs = search needs
 
 put-header-requires : tie.Need-put-header-requires
 put-header-requires c κs = search needs
@@ -22,4 +22,4 @@ returns c = search octets-put
 pub put-part-spec : {M : Type 1} → statement M
 put-part-spec =
     tie.close
-    (tie.spec octets-of-requires put-header-requires put-bytes-requires same-length returns)
+    (tie.spec part-octets-requires put-header-requires put-bytes-requires same-length returns)

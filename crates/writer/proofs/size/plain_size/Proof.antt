@@ -33,7 +33,7 @@ returns-3 : tie.Need-returns-3
 returns-3 c = search value-octets
 
 returns-4 : tie.Need-returns-4
-returns-4 c = search (value-null, refl)
+returns-4 c = search value-null
 
 pub plain-size-spec : {M : Type 1} → statement M
 plain-size-spec =
