@@ -1,1 +1,3 @@
+pub mod Ruled
+pub mod Sample
 pub mod Cases

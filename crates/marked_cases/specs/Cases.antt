@@ -1,21 +1,72 @@
--- Document 01's cases marked (P), as one list. A case states an answer of the very definitions that the contracts cite;
--- a later layer adds a kind of case and its entries.
+-- Document 01's cases marked (P), as one list. A case states an answer of the very definitions that the contracts cite.
 use mathlib.Core.Path.{_≡_}
+use mathlib.Core.Option.{Option, none, some}
 use mathlib.Core.List.{List, [], _∷_}
 use Prim.Native.Nat.{ℕ}
-use Rattle.answer.specs.Answer.{refused}
+use lib.ListN.{length}
+use Rattle.answer.specs.Answer.{Answer, got, refused}
+use Rattle.answer.specs.Refusal.{keyTooSmall}
 use Rattle.schema.specs.Decode.{read}
+use Rattle.records.specs.declared.Record.{Record}
+use Rattle.reader.specs.declared.Outcome.{Outcome}
+use Rattle.reader.specs.Reading.{ofReading, RefusedEmpty, AcceptedSound}
+use Rattle.ruling.specs.declared.request.Request.{Request}
+use Rattle.ruling.specs.Checks.{keySizeRefused}
+use Rattle.ruling.specs.Ruling.{Permit, firstRefusing, unless, ruling}
 use Rattle.listing.specs.Text.{listing}
+
+-- what a ruling case says of a request; all else that the request holds may be anything
+pub record Use : Type 0 where
+  pub purpose : ℕ
+  pub digest : ℕ
+  pub padding : ℕ
+  pub floor : ℕ
+  pub clock : ℕ
 
 pub data Case : Type 0 where
   -- what is read in these bytes lists as this text
   lists : List ℕ → List ℕ → Case
   -- reading these bytes refuses them, with this number and place
   refuses : List ℕ → ℕ → ℕ → Case
+  -- what is read in these bytes is ruled so for this use
+  rules : List ℕ → Use → Answer Permit → Case
+  -- check 35 alone answers so for this digest and a key of so many bits
+  sizes : ℕ → ℕ → Answer (Unit {0}) → Case
+
+-- a request for that use
+pub record Asks (u : Use) (q : Request) : Type 0 where
+  pub purpose : q .purpose ≡ u .purpose
+  pub digest : q .digest ≡ u .digest
+  pub padding : q .padding ≡ u .padding
+  pub floor : q .floor ≡ u .floor
+  pub clock : q .clock ≡ u .clock
+
+-- what the contract of the reader's `read` says of its answer for these bytes and the record beside it
+pub record Reads (bs : List ℕ) (o : Outcome) (r : Record) : Type 0 where
+  pub is : ofReading bs o r ≡ read bs
+  pub empty : RefusedEmpty o r
+  pub sound : AcceptedSound (length bs) o r
+
+-- the bytes are accepted, and whatever record is read in them, every request for the use gets this answer
+pub record Ruled (bs : List ℕ) (u : Use) (a : Answer Permit) : Type 0 where
+  pub accepted : (n : ℕ) × (r : Record) × Reads bs (Outcome.Accepted n) r
+  pub answers : (o : Outcome) (r : Record) (q : Request) → Reads bs o r → Asks u q → ruling r q ≡ a
+
+-- "Check 35 alone": of SIGN (2) with RSA (1) and padding 3, by the key sizes that the software and the hardware list hold
+abbrev pub keySizeAlone : ℕ → Option ℕ → Option ℕ → Answer (Unit {0})
+keySizeAlone digest s h = unless (firstRefusing ((keyTooSmall, keySizeRefused 2 1 3 digest s h) ∷ [])) tt
+
+-- wherever the size stands: in one list, in the other or in both
+pub record Sized (digest bits : ℕ) (a : Answer (Unit {0})) : Type 0 where
+  pub software : keySizeAlone digest (some bits) none ≡ a
+  pub hardware : keySizeAlone digest none (some bits) ≡ a
+  pub both : keySizeAlone digest (some bits) (some bits) ≡ a
 
 unfoldable pub Holds : Case → Type 0
 Holds (lists bs text) = listing (read bs) ≡ text
 Holds (refuses bs number place) = read bs ≡ refused number place
+Holds (rules bs u a) = Ruled bs u a
+Holds (sizes digest bits a) = Sized digest bits a
 
 unfoldable pub Every : List Case → Type 0
 Every [] = Unit {0}
@@ -46,9 +97,23 @@ text =
     ∷ 101 ∷ 108 ∷ 101 ∷ 109 ∷ 101 ∷ 110 ∷ 116 ∷ 115 ∷ 32 ∷ 50 ∷ 54 ∷ 10  -- elements 26
     ∷ []
 
+-- "SIGN, .. padding 1, floor 1600000000000", by digest and clock
+abbrev pub sign : ℕ → ℕ → Use
+sign digest clock = record { purpose = 2; digest = digest; padding = 1; floor = 1600000000000; clock = clock }
+
+-- "hardware 32783 (5 bits), software 32", which is one bit
+abbrev pub permitted : Permit
+permitted = record { hardware = 32783; hardwareBits = 5; software = 32; softwareBits = 1 }
+
 unfoldable pub cases : List Case
 cases =
     lists extension text
+    ∷ rules extension (sign 4 1609459200000) (got permitted)  -- "clock 1609459200000 permits, .."
+    ∷ rules extension (sign 4 1609459199999) (refused 37 0)  -- "1609459199999 gives 37"
+    ∷ rules extension (sign 4 0) (refused 36 0)  -- "0 gives 36"
+    ∷ rules extension (sign 5 1609459200000) (refused 34 0)  -- "digest 5 gives 34"
+    ∷ sizes 6 1033 (got tt)  -- "Check 35 alone, digest 6: 1,033 bits pass"
+    ∷ sizes 6 1032 (refused 35 0)  -- "1,032 give 35"
     ∷ refuses [] 2 0  -- "Empty input: 2 at 0"
     ∷ refuses (0x30 ∷ 0x80 ∷ []) 4 0  -- "Input 30 80: 4 at 0"
     ∷ refuses (0x05 ∷ 0x00 ∷ 0x00 ∷ []) 7 2  -- "Input 05 00 00: 7 at 2"
