@@ -10,11 +10,12 @@ use Rattle.schema.specs.Content.{Content}
 use Rattle.records.specs.Shape.{wellShapedRecord}
 use Rattle.records.specs.declared.Record.{Record}
 use Rattle.records.proofs.Equal.{content-equal}
+use Rattle.reader.specs.Reading.{Reads}
 use Rattle.reader.specs.declared.Outcome.{Outcome}
 use Rattle.ruling.specs.declared.request.Request.{Request}
 use Rattle.ruling.specs.Ruling.{Permit, ruling}
 use Rattle.ruling.proofs.NothingElse.{equal-ruled}
-use Rattle.marked_cases.specs.Cases.{Use, Asks, Reads, Ruled}
+use Rattle.marked_cases.specs.Cases.{Use, Asks, Ruled}
 
 -- the request for a use that holds all else as q does
 abbrev pub asking : Use → Request → Request

@@ -20,9 +20,10 @@ use Rattle.records.specs.Parts.{contentInside, rowInside, listInside, partsInsi
 use Rattle.records.specs.Shape.{setShaped, valueShaped, rowShaped, listShaped, headShaped, wellShapedRecord}
 use Rattle.records.specs.declared.NumberSet.{NumberSet}
 use Rattle.records.specs.declared.Record.{Record}
+use Rattle.reader.specs.Reading.{Reads}
 use Rattle.reader.specs.declared.Outcome.{Outcome}
 use Rattle.reader.specs.Empty.{emptySet, emptyRoot}
-use Rattle.marked_cases.specs.Cases.{Reads, extension}
+use Rattle.marked_cases.specs.Cases.{extension}
 
 abbrev single : ℕ → NumberSet
 single n = record { members = set (replicate 16 0) 0 n; count = 1 }

@@ -9,7 +9,7 @@ use Rattle.answer.specs.Refusal.{keyTooSmall}
 use Rattle.schema.specs.Decode.{read}
 use Rattle.records.specs.declared.Record.{Record}
 use Rattle.reader.specs.declared.Outcome.{Outcome}
-use Rattle.reader.specs.Reading.{ofReading, RefusedEmpty, AcceptedSound}
+use Rattle.reader.specs.Reading.{Reads}
 use Rattle.ruling.specs.declared.request.Request.{Request}
 use Rattle.ruling.specs.Checks.{keySizeRefused}
 use Rattle.ruling.specs.Ruling.{Permit, firstRefusing, unless, ruling}
@@ -40,12 +40,6 @@ pub record Asks (u : Use) (q : Request) : Type 0 where
   pub padding : q .padding ≡ u .padding
   pub floor : q .floor ≡ u .floor
   pub clock : q .clock ≡ u .clock
-
--- what the contract of the reader's `read` says of its answer for these bytes and the record beside it
-pub record Reads (bs : List ℕ) (o : Outcome) (r : Record) : Type 0 where
-  pub is : ofReading bs o r ≡ read bs
-  pub empty : RefusedEmpty o r
-  pub sound : AcceptedSound (length bs) o r
 
 -- the bytes are accepted, and whatever record is read in them, every request for the use gets this answer
 pub record Ruled (bs : List ℕ) (u : Use) (a : Answer Permit) : Type 0 where

@@ -30,10 +30,10 @@ use Rattle.records.specs.declared.Record.{Record}
 use Rattle.records.proofs.Equal.{equal-content, content-equal}
 use Rattle.records.proofs.ShapedContent.{shaped-content}
 use Rattle.reader.specs.declared.Outcome.{Outcome}
-use Rattle.reader.specs.Reading.{ofReading}
+use Rattle.reader.specs.Reading.{ofReading, Reads}
 use Rattle.writer.specs.declared.Written.{Written}
 use Rattle.writer.specs.Written.{encodingOf, writable, written, ofWritten}
-use Rattle.one_record.specs.Contracts.{Reads, ReadsAs, Writes}
+use Rattle.one_record.specs.Contracts.{ReadsAs, Writes}
 use Rattle.one_record.specs.Statements.{AcceptedExactly, EqualSameBytes, Encodable, EncodingAccepted, ReadsBackEqual, OnlyEncoding, EncodingSmall, WritesJustThat, RefusedUntouched, RefusesInOrder, WriteRefuses, WriteOfRead, ReadOfWrite}
 use Rattle.one_record.proofs.ContentOctets.{content-octets}
 

@@ -1,21 +1,13 @@
--- What the contracts of the reader's `read` and the writer's `write` say of their answers; crates/round_trip shows that
--- they say it of the functions themselves.
+-- What the contracts of the reader's `read` (its `Reads`) and of the writer's `write` say of their answers; crates/round_trip
+-- shows that they say it of the functions themselves.
 use mathlib.Core.Path.{_≡_}
 use mathlib.Core.List.{List}
 use Prim.Native.Nat.{ℕ}
-use lib.ListN.{length}
-use Rattle.schema.specs.Decode.{read}
 use Rattle.records.specs.declared.Record.{Record}
 use Rattle.reader.specs.declared.Outcome.{Outcome}
-use Rattle.reader.specs.Reading.{ofReading, RefusedEmpty, AcceptedSound}
+use Rattle.reader.specs.Reading.{Reads}
 use Rattle.writer.specs.declared.Written.{Written}
 use Rattle.writer.specs.Written.{ofWritten, written, leftBy}
-
--- reading the bytes s answers o, with the record r beside it
-pub record Reads (s : List ℕ) (o : Outcome) (r : Record) : Type 0 where
-  pub is : ofReading s o r ≡ read s
-  pub empty : RefusedEmpty o r
-  pub sound : AcceptedSound (length s) o r
 
 -- the bytes s are accepted, with the record r and n elements
 abbrev pub ReadsAs : List ℕ → Record → ℕ → Type 0

@@ -19,9 +19,10 @@ use Rattle.records.specs.Parts.{partsInside}
 use Rattle.records.specs.Equal.{Equal}
 use Rattle.records.specs.declared.Record.{Record}
 use Rattle.reader.specs.declared.Outcome.{Outcome}
+use Rattle.reader.specs.Reading.{Reads}
 use Rattle.writer.specs.declared.Written.{Written}
 use Rattle.writer.specs.Written.{encodingOf}
-use Rattle.one_record.specs.Contracts.{Reads, ReadsAs, Writes}
+use Rattle.one_record.specs.Contracts.{ReadsAs, Writes}
 
 -- "An extension is read exactly when it is DER of the published schema of its version, within document 01's limits": bytes
 -- are accepted if and only if they are the encoding of some well-shaped content and at most 8,192 long

@@ -3,9 +3,11 @@
 use mathlib.Core.Path.{_≡_}
 use mathlib.Core.List.{List}
 use Prim.Native.Nat.{ℕ}
+use lib.ListN.{length}
 use lib.Dec.{T}
 use Rattle.answer.specs.Answer.{Answer, got, refused}
 use Rattle.schema.specs.Content.{Content}
+use Rattle.schema.specs.Decode.{read}
 use Rattle.records.specs.Content.{contentOf}
 use Rattle.records.specs.Shape.{wellShapedRecord}
 use Rattle.records.specs.Parts.{partsInside}
@@ -27,3 +29,9 @@ RefusedEmpty (Outcome.Refused k p) r = r ≡ emptyRecord
 abbrev pub AcceptedSound : ℕ → Outcome → Record → Type 0
 AcceptedSound n (Outcome.Accepted k) r = T (wellShapedRecord r) × T (partsInside r n)
 AcceptedSound n (Outcome.Refused k p) r = Unit {0}
+
+-- all that the contract of `read` says: reading the bytes s answers o, with the record r beside it
+pub record Reads (s : List ℕ) (o : Outcome) (r : Record) : Type 0 where
+  pub is : ofReading s o r ≡ read s
+  pub empty : RefusedEmpty o r
+  pub sound : AcceptedSound (length s) o r

@@ -20,11 +20,11 @@ use Rattle.records.specs.Shape.{wellShapedRecord}
 use Rattle.records.specs.Equal.{Equal}
 use Rattle.records.specs.declared.Record.{Record}
 use Rattle.reader.specs.declared.Outcome.{Outcome}
-use Rattle.reader.specs.Reading.{ofReading, RefusedEmpty, AcceptedSound}
+use Rattle.reader.specs.Reading.{ofReading, RefusedEmpty, AcceptedSound, Reads}
 use Rattle.reader.proofs.Spelled.{octets-all}
 use Rattle.writer.specs.declared.Written.{Written}
 use Rattle.writer.specs.Written.{encodingOf, writable, ofWritten, written, leftBy}
-use Rattle.one_record.specs.Contracts.{Reads, Writes}
+use Rattle.one_record.specs.Contracts.{Writes}
 use Rattle.one_record.proofs.OneRecord.{read-encodable, wrote-encodable, read-of-write}
 use Rattle.round_trip.specs.Again.{writtenAgain, ReadAgain}
 
