@@ -1,65 +1,39 @@
-#!/usr/bin/env python3
-"""Writes the input and the expected output of the program ruling_cases: crates/ruling_cases/stdin and stdout.
+"""Cases of uses for the program record_cases: the samples of cases/ruling.jsonl, and our own.
 
-The cases are the sample cases in cases/ruling.jsonl, numbered by their lines, and those below, from 1001 on. Each states
-its answer from document 01 beside its record and request, not from a run. With --check nothing is written, and the exit
-status says whether both files are as this script would write them.
+Each states its answer from document 01 beside its record and request, not from a run.
 """
 import json
 import os
-import sys
 
-ROOT = os.path.join(os.path.dirname(os.path.abspath(__file__)), "..")
-stdin, stdout = bytearray(), []
-
-
-def words(*numbers):
-    """Eight octets for each number, highest first."""
-    return b"".join(int(n).to_bytes(8, "big") for n in numbers)
-
-
-def field(number, kind, value):
-    """A field's number, its value, how many members it has, and its members."""
-    if kind == "set":
-        return words(number, 0, len(value), *value)
-    return words(number, 0 if kind == "null" else value, 0)
-
-
-def listed(fields):
-    return b"".join(field(*f) for f in fields)
+from reader_cases import NULLS, ROOT, SETS
+from record_input import TOP32, TOP64, USE, add, refusal, words
 
 
 def text(want):
     """An answer as the program says it."""
     if "refused" in want:
-        return "refused %d at %d" % (want["refused"], want["place"])
+        return refusal(want["refused"])
     return "permit hardware %d of %d software %d of %d" % (want["hw"], want["hw_bits"], want["sw"], want["sw_bits"])
 
 
-def case(at, record, request, want):
+def case(name, record, request, want):
     """Ruling on the record and the request answers what the case wants."""
     token = request["token"]
-    software, hardware = listed(record["software"]), listed(record["hardware"])
-    stdin.extend(words(at, record["version"], record["level"], record["keymint"], record["kmlevel"]))
-    stdin.extend(words(*(request[k] for k in ("purpose", "digest", "padding", "clock", "floor", "uptime", "handle"))))
-    stdin.extend(words(*(token[k] for k in ("there", "type", "time", "challenge"))))
-    stdin.extend(words(*(request[k] for k in ("locked", "present", "confirmed", "early_boot_over", "uses"))))
-    stdin.extend(words(len(record["software"]), len(software), len(record["hardware"]), len(hardware)))
-    stdin.extend(software + hardware)
-    stdout.append("case %d: %s\n" % (at, text(want)))
+    asked = words(*(request[k] for k in ("purpose", "digest", "padding", "clock", "floor", "uptime", "handle")),
+                  *(token[k] for k in ("there", "type", "time", "challenge")),
+                  *(request[k] for k in ("locked", "present", "confirmed", "early_boot_over", "uses")))
+    add(USE, name, record, b"", asked, text(want))
 
 
 with open(os.path.join(ROOT, "cases", "ruling.jsonl"), encoding="utf-8") as lines:
     for place, line in enumerate(lines, 1):
         sample = json.loads(line)
-        case(place, sample["record"], sample["request"], sample["want"])
+        case("sample %d of a use" % place, sample["record"], sample["request"], sample["want"])
 
 # ---- cases of our own
 
 DECRYPT, SIGN, AGREE_KEY, ATTEST_KEY = 1, 2, 6, 7
 RSA, EC = 1, 3
-TOP32, TOP64 = 2**32 - 1, 2**64 - 1
-SETS, NULLS = {1, 5, 6, 203}, {303, 305, 503, 506, 507, 508, 509, 600, 703, 720}
 # "Bits from 0: purpose, algorithm, padding, digest, keySize, 400, 401, 402, 504, 505, 509, 507, 508, 305, 405, 503"
 BITS = [1, 2, 6, 5, 3, 400, 401, 402, 504, 505, 509, 507, 508, 305, 405, 503]
 
@@ -84,22 +58,16 @@ def token(kinds, time=0, challenge=0):
     return {"there": True, "type": kinds, "time": time, "challenge": challenge}
 
 
-number_of_case = 1000
-
-
 def ruled(name, want, hardware, software=None, version=300, level=1, keymint_level=1, **asked):
     """One case: its name says what it is for. Where nothing is said, a SIGN with digest 4 and padding 1 is asked for, on
     a device that is in use, with the user present and no token."""
-    global number_of_case
-    number_of_case += 1
     record = {"version": version, "level": level, "keymint": 100, "kmlevel": keymint_level,
               "software": fields(software or {}), "hardware": fields(hardware)}
     request = {"purpose": SIGN, "digest": 4, "padding": 1, "clock": 0, "floor": 0, "uptime": 0, "handle": 0,
                "token": {"there": False, "type": 0, "time": 0, "challenge": 0}, "locked": False, "present": True,
                "confirmed": True, "early_boot_over": True, "uses": 0}
     request.update(asked)
-    assert name
-    case(number_of_case, record, request, want)
+    case(name, record, request, want)
 
 
 # "One extension, whole": "Rulings on it, SIGN, digest 4, padding 1, floor 1600000000000"
@@ -211,11 +179,11 @@ ruled("503 beside 504, in the other list", permit(GUARDED_BITS), GUARDED, {503: 
 signing("505 without 504 is not looked at", permit(ALL), {505: 0}, {505: 0}, token=token(1, 0, 1), uptime=9)
 
 # 42 to 46, each list
-for number, asked, refusal in ((509, {"locked": True}, 42), (507, {"present": False}, 43),
+for number, asked, number_given in ((509, {"locked": True}, 42), (507, {"present": False}, 43),
                                (508, {"confirmed": False}, 44), (305, {"early_boot_over": True}, 45)):
     good = {k: not v for k, v in asked.items()}
-    signing("42 to 45, the hardware list's", refused(refusal), {number: True}, **asked)
-    signing("42 to 45, the software list's", refused(refusal), {}, {number: True}, **asked)
+    signing("42 to 45, the hardware list's", refused(number_given), {number: True}, **asked)
+    signing("42 to 45, the software list's", refused(number_given), {}, {number: True}, **asked)
     signing("42 to 45, allowed", permit(ALL + (number,), (number,)), {number: True}, {number: True}, **good)
     signing("42 to 45, no such tag", permit(ALL), **asked)
 signing("46, one use left", permit(ALL + (405,)), {405: 5}, uses=4)
@@ -269,23 +237,3 @@ signing("20, 405 is from version 100 on", refused(20), {405: 9}, version=4)
 signing("20, members that do not ascend", refused(20), {1: [2, 2]})
 signing("20, a number above its top", refused(20), {405: 2**32})
 signing("an octet part that lies nowhere", permit(ALL), {709: TOP64})
-
-
-def main():
-    base = os.path.join(ROOT, "crates", "ruling_cases")
-    good = True
-    for name, data in (("stdin", bytes(stdin)), ("stdout", "".join(stdout).encode())):
-        path = os.path.join(base, name)
-        if "--check" in sys.argv[1:]:
-            with open(path, "rb") as kept:
-                if kept.read() != data:
-                    print("%s is not what scripts/ruling_cases.py writes" % os.path.relpath(path, ROOT))
-                    good = False
-        else:
-            with open(path, "wb") as out:
-                out.write(data)
-    return 0 if good else 1
-
-
-if __name__ == "__main__":
-    sys.exit(main())

@@ -1,28 +1,17 @@
-#!/usr/bin/env python3
-"""Writes the input and the expected output of the program writer_cases: crates/writer_cases/stdin and stdout.
+"""Cases of writing for the program record_cases: the samples of cases/writer.jsonl, and our own.
 
-The cases are the sample cases in cases/writer.jsonl and those below. Each states its answer, and the listing of what is
-read back, beside its record: from document 01 and the schemas printed in source document 001, not from a run. Three of
-the 94 samples are left out, since no record can hold them: a field that the table lacks, a member of 2^32, and 17
-members (a count above 16 is among the cases below). With --check nothing is written, and the exit status says whether
-both files are as this script would write them.
+Each states its answer, and the listing of what is read back, beside its record: from document 01 and the schemas printed in
+source document 001, not from a run. Three of the 94 samples are left out, since no record can hold them: a field that the
+table lacks, a member of 2^32, and 17 members (a count above 16 is among the cases below).
 """
 import json
 import os
-import sys
 
 from reader_cases import (FIELDS, NULLS, OCTETS, ROOT, SETS, element, elements, enumerated, explicit, integer, octets,
                           sequence)
+from record_input import TABLE, TOP32, TOP64, WRITE, add, held, refusal, words
 
-cases, records, stdout = [], [], []
-TOP32, TOP64 = 2**32 - 1, 2**64 - 1
-TABLE = sorted(set().union(*FIELDS.values()) | {601})
 WIDE = {200, 400, 401, 402, 701}
-
-
-def words(*numbers):
-    """Eight octets for each number, highest first."""
-    return b"".join(n.to_bytes(8, "big") for n in numbers)
 
 
 # ---- a record as its encoding and as its listing. A part is [start, length] in the buffer; a set is its members, or
@@ -85,58 +74,13 @@ def listing(record, buffer):
     return "\n".join(lines + ["elements %d" % elements(encoding(record, buffer))]) + "\n"
 
 
-# ---- the program's input
-
-def field_words(number, kind, value, *absent):
-    head, more = [0, 0], []
-    if kind == "set":
-        told = value if isinstance(value, dict) else {"count": len(value), "slots": value}
-        head, more = [told["count"], 0], told["slots"]
-    elif kind == "oct":
-        head = value
-    elif kind == "rot":
-        hashed = value["hash"] is not None
-        head = value["key"]
-        more = [int(value["locked"]), value["state"], int(hashed)] + (value["hash"] or value.get("spare", [0, 0]))
-    elif kind != "null":
-        head = [value, 0]
-    return words(number, int(not absent), *head, *more, *[0] * (16 - len(more)))
-
-
-def record_words(record, buffer):
-    fields = record["software"] + record["hardware"]
-    return (words(record["version"], record["level"], record["keymint"], record["kmlevel"], *record["challenge"],
-                  *record["unique"], len(record["software"]), len(record["hardware"]), len(buffer))
-            + b"".join(field_words(*field) for field in fields) + buffer)
-
-
-def held(record):
-    """Whether the types of a record hold what a sample tells."""
-    def good(number, kind, value):
-        if kind == "set":
-            return len(value) <= 16 and all(n <= TOP32 for n in value)
-        if kind == "oct":
-            return max(value) <= TOP64
-        if kind == "rot":
-            return value["state"] <= TOP32 and max(value["key"] + (value["hash"] or [])) <= TOP64
-        return kind == "null" or value <= TOP64
-
-    return (all(field[0] in TABLE and good(*field) for field in record["software"] + record["hardware"])
-            and max(record[name] for name in ("version", "level", "keymint", "kmlevel")) <= TOP32
-            and max(record["challenge"] + record["unique"]) <= TOP64)
-
-
 def case(name, record, buffer, room, want):
     """Writing the record into room bytes answers want: its encoding, or a refusal's number."""
-    data = record_words(record, buffer)
-    if data not in records:
-        records.append(data)
-    cases.append((name.encode(), room, records.index(data)))
     if isinstance(want, int):
-        stdout.append("%s: refused %d at 0 output kept\n" % (name, want))
+        answer = refusal(want) + " output kept"
     else:
-        stdout.append("%s: wrote %d %s rest kept\n" % (name, len(want), want.hex()))
-        stdout.append(listing(record, buffer) + "as written\n")
+        answer = "wrote %d %s rest kept\n%sas written" % (len(want), want.hex(), listing(record, buffer))
+    add(WRITE, name, record, buffer, words(room), answer)
 
 
 # ---- the sample cases
@@ -148,7 +92,7 @@ with open(os.path.join(ROOT, "cases", "writer.jsonl"), encoding="utf-8") as line
             left_out += 1
             continue
         buffer, want = bytes.fromhex(told["buffer"]), told["want"]
-        case("sample %d" % place, told["record"], buffer, told["outlen"],
+        case("sample %d of writing" % place, told["record"], buffer, told["outlen"],
              bytes.fromhex(want["ok"]) if "ok" in want else want["refused"])
 assert left_out == 3
 
@@ -286,35 +230,3 @@ for size, rooms in ((8191, (8190, 8191)), (8192, (0, 8191, 8192, 8193)), (8193, 
 every = [[n, "oct", [0, 9000]] for n in sorted(OCTETS - {601})]
 refused("all octet fields the whole buffer", record(300, every, every), 22, LONG)
 refused("all octet fields the whole buffer, no output", record(300, every, every), 22, LONG, 0)
-
-
-def main():
-    head = 8 + 32 * len(cases)
-    names = {}
-    tail = bytearray()
-    for name, _, _ in cases:
-        names[name] = head + len(tail)
-        tail += name
-    places = []
-    for data in records:
-        places.append(head + len(tail))
-        tail += data
-    table = b"".join(words(room, names[name], len(name), places[k]) for name, room, k in cases)
-    stdin = words(len(cases)) + table + tail
-    assert len(names) == len(cases) and len(stdin) <= 524288
-    good = True
-    for name, data in (("stdin", bytes(stdin)), ("stdout", "".join(stdout).encode())):
-        path = os.path.join(ROOT, "crates", "writer_cases", name)
-        if "--check" in sys.argv[1:]:
-            with open(path, "rb") as kept:
-                if kept.read() != data:
-                    print("%s is not what scripts/writer_cases.py writes" % os.path.relpath(path, ROOT))
-                    good = False
-        else:
-            with open(path, "wb") as out:
-                out.write(data)
-    return 0 if good else 1
-
-
-if __name__ == "__main__":
-    sys.exit(main())
