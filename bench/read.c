@@ -1,26 +1,10 @@
 // Time of reading each file named into a record that is handed out: ns a read and a byte, with the first pass alone beside
 // it.
 // Built and run by bench/read; the least of several rounds is printed, which other work on the machine disturbs least.
-#include <stdbool.h>
-#include <stdint.h>
+#include "record.h"
 #include <stdio.h>
 #include <time.h>
 
-// The structs of crates/records/src/lib.rt, and what bench_read hands out.
-typedef struct { size_t start, len; } part;
-typedef struct { uint32_t members[16]; size_t count; } number_set;
-typedef struct { part key; bool locked; uint32_t state; bool hashed; part hash; } root_of_trust;
-typedef struct {
-    bool present[42];
-    uint64_t values[42], sizes[42];
-    number_set purpose, digest, padding, mgf;
-    root_of_trust root;
-} field_list;
-typedef struct { uint32_t version, level; } security;
-typedef struct { security attestation, keymint; part challenge, unique; field_list software, hardware; } record;
-typedef struct { size_t elements; record said; } handed_out;
-
-extern handed_out bench_read_record(const uint8_t *bytes, size_t len);
 extern size_t bench_walk_elements(const uint8_t *bytes, size_t len);
 
 static double now(void) {
