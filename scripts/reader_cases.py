@@ -1,6 +1,7 @@
 #!/usr/bin/env python3
 """Writes the input and the expected output of the program reader_cases, crates/reader_cases/stdin and stdout, and the
-expected output of the program table_cases, crates/table_cases/stdout; and the large sample, samples/every_field.der.
+expected output of the program table_cases, crates/table_cases/stdout; and the larger samples: samples/every_field.der,
+samples/twenty_fields.der and samples/limit.der.
 
 The cases are the sample cases in cases/reader.jsonl and those below. Each states its answer beside its bytes, from
 document 01 and the schemas printed in source document 001, not from a run. With --check nothing is written, and the
@@ -98,14 +99,59 @@ def sample(version, number):
     return integer(number * 3), str(number * 3)
 
 
-def extension(version, software=b"", hardware=b"", level=1, challenge=b"\x01\x02"):
+def extension(version, software=b"", hardware=b"", level=1, challenge=b"\x01\x02", unique=b""):
     return sequence(integer(version), enumerated(level), integer(version + 1), enumerated(level), octets(challenge),
-                    octets(b""), sequence(software), sequence(hardware))
+                    octets(unique), sequence(software), sequence(hardware))
 
 
 def every_field(version):
     """One list with each field that the version's schema prints."""
     return b"".join(explicit(n, sample(version, n)[0]) for n in FIELDS[version])
+
+
+def filled(n, seed):
+    """n octets that differ with their place and with seed."""
+    return bytes((seed * 31 + 7 * i + i // 256) % 256 for i in range(n))
+
+
+def number_set(*members):
+    return element(b"\x31", b"".join(map(integer, members)))
+
+
+def hashed_root(seed):
+    """A version 3 root of trust with a key and a hash of 32 octets, as devices have it."""
+    return sequence(octets(filled(32, seed)), element(b"\x01", b"\xff"), enumerated(0), octets(filled(32, seed + 1)))
+
+
+def twenty_fields():
+    """An extension of the size that a device's has: twenty fields in each list, with values of their usual widths."""
+    def fields(seed):
+        return b"".join(explicit(n, content) for n, content in (
+            (1, number_set(2, 3)), (2, integer(3)), (3, integer(256)), (5, number_set(0, 4, 6)),
+            (6, number_set(1, 3, 5)), (10, integer(1)), (200, integer(65537)), (400, integer(1609459200000 + seed)),
+            (401, integer(1924991999000)), (402, integer(1924991999999)), (503, element(b"\x05")),
+            (701, integer(1640995200000 + seed)), (702, integer(0)), (704, hashed_root(seed)), (705, integer(140000)),
+            (706, integer(202411)), (709, octets(filled(62, seed + 2))), (710, octets(b"panel")),
+            (718, integer(20241101)), (719, integer(20241105))))
+    return extension(300, fields(1), fields(2), challenge=filled(32, 3), unique=filled(16, 4))
+
+
+def limit():
+    """The most that a read can be asked to do: every field of version 300 in both lists, every set with sixteen
+    members, octet fields of 330 bytes, and a challenge that fills the extension up to 8,192 bytes."""
+    def content(n, seed):
+        if n in SETS:
+            return number_set(*(1 << 2 * i for i in range(16)))
+        if n in OCTETS:
+            return octets(filled(330, n + seed))
+        return hashed_root(seed) if n == 704 else sample(300, n)[0]
+
+    software, hardware = (b"".join(explicit(n, content(n, seed)) for n in FIELDS[300]) for seed in (5, 50))
+    for size in range(8192):
+        whole = extension(300, software, hardware, challenge=filled(size, 9), unique=filled(16, 4))
+        if len(whole) >= 8192:
+            assert len(whole) == 8192
+            return whole
 
 
 def head(version, level=1):
@@ -204,7 +250,8 @@ def main():
     good = True
     for name, data in (("crates/reader_cases/stdin", bytes(stdin)),
                        ("crates/reader_cases/stdout", "".join(stdout).encode()),
-                       ("crates/table_cases/stdout", table.encode()), ("samples/every_field.der", large)):
+                       ("crates/table_cases/stdout", table.encode()), ("samples/every_field.der", large),
+                       ("samples/twenty_fields.der", twenty_fields()), ("samples/limit.der", limit())):
         path = os.path.join(ROOT, name)
         if "--check" in sys.argv[1:]:
             with open(path, "rb") as kept:
