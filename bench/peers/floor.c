@@ -179,12 +179,7 @@ static bool read_record(const uint8_t *s, size_t len, record *out) {
         && read_list(s, &at, end, version, &out->hardware) && at == end;
 }
 
-bool peer_read(const uint8_t *bytes, size_t len) {
-    record said;
-    bool read = read_record(bytes, len, &said);
-    USED(&said);
-    return read;
-}
+bool peer_read(const uint8_t *bytes, size_t len, record *said) { return read_record(bytes, len, said); }
 
 uint64_t peer_sum(const uint8_t *bytes, size_t len, summing sum) {
     record said;

@@ -14,7 +14,7 @@ enum { ROUNDS = 60, ROUND_NS = 3000000, MOST_FILES = 8, READERS = 6, SCULLDRIP =
 
 typedef struct {
     const char *name, *library;
-    bool (*read)(const uint8_t *, size_t);
+    bool (*read)(const uint8_t *, size_t, record *);
     uint64_t (*sum)(const uint8_t *, size_t, summing);
     double ns[MOST_FILES];
 } reader;
@@ -27,6 +27,7 @@ static reader readers[READERS] = {{.name = "Sculldrip", .library = "sculldrip"},
                                   {.name = "OpenSSL templates", .library = "openssl"},
                                   {.name = "libtasn1", .library = "libtasn1"}};
 static input inputs[MOST_FILES];
+static record room;  // what is read into
 static int files;
 
 static void stop(const char *what, const char *name) {
@@ -130,7 +131,7 @@ static void compare(input *in) {
                 fprintf(stderr, "compare: %s, change %zu: %s does not say what Sculldrip says\n", in->name, at, readers[r].name);
                 exit(1);
             }
-            if (readers[r].read(in->bytes, in->len) != (sum != 0)) stop("timed read answers otherwise", readers[r].name);
+            if (readers[r].read(in->bytes, in->len, &room) != (sum != 0)) stop("timed read answers otherwise", readers[r].name);
         }
         if (at) in->bytes[(at - 1) / 8] ^= (uint8_t)(1 << (at - 1) % 8);
     }
@@ -150,7 +151,7 @@ static double one_round(const reader *r, const input *in, size_t turns) {
     double start = now();
     for (size_t i = 0; i < turns; i++) {
         USED(in->bytes);
-        accepted += r->read(in->bytes, in->len);
+        accepted += r->read(in->bytes, in->len, &room);
     }
     double took = (now() - start) / (double)turns;
     if (accepted != turns) stop("refused while timed", r->name);

@@ -133,10 +133,8 @@ static KEY_DESCRIPTION *read_record(const uint8_t *bytes, size_t len, record *ou
     return NULL;
 }
 
-bool peer_read(const uint8_t *bytes, size_t len) {
-    record said;
-    KEY_DESCRIPTION *all = read_record(bytes, len, &said);
-    USED(&said);
+bool peer_read(const uint8_t *bytes, size_t len, record *said) {
+    KEY_DESCRIPTION *all = read_record(bytes, len, said);
     KEY_DESCRIPTION_free(all);
     return all != NULL;
 }

@@ -26,9 +26,10 @@ typedef struct { security attestation, keymint; part challenge, unique; field_li
 // copies of its own and start is an address.
 typedef uint64_t (*summing)(const record *said, const uint8_t *base);
 
-// Each reader's library has these two. The first is timed: a read of all fields into a plain struct, and giving back what
-// was taken for it. The second reads in the same way and answers the sum of what was said; 0 where it is refused.
-bool peer_read(const uint8_t *bytes, size_t len);
+// Each reader's library has these two. The first is timed: a read of all fields into a plain struct, the caller's record or
+// a local one of the reader's own type, and giving back what was taken for it. The second reads in the same way and answers
+// the sum of what was said; 0 where it is refused.
+bool peer_read(const uint8_t *bytes, size_t len, record *said);
 uint64_t peer_sum(const uint8_t *bytes, size_t len, summing sum);
 
 // The compiler must take it that all of *what is used.

@@ -4,7 +4,8 @@
 typedef struct { size_t elements; record said; } handed_out;
 extern handed_out bench_read_record(const uint8_t *bytes, size_t len);
 
-bool peer_read(const uint8_t *bytes, size_t len) {
+bool peer_read(const uint8_t *bytes, size_t len, record *said) {
+    (void)said;
     handed_out out = bench_read_record(bytes, len);
     USED(&out);
     return out.elements != 0;

@@ -7,22 +7,27 @@ use asn1::{Asn1Read, Enumerated, Null, ParseError, ParseErrorKind, ParseResult, 
 use record::{part_of, FieldList, NumberSet, Record, RootOfTrust, Security, Summing};
 use std::hint::black_box;
 
-// A SET OF is handed out by asn1 as an iterator; its numbers are kept.
+// asn1's own SET OF is an iterator over bytes; here its numbers are kept, which read once cost less than checked by it and
+// then read from it.
 struct Numbers(NumberSet);
 
 impl<'a> SimpleAsn1Readable<'a> for Numbers {
     const TAG: Tag = <SetOf<'a, u32> as SimpleAsn1Readable<'a>>::TAG;
 
     fn parse_data(data: &'a [u8]) -> ParseResult<Self> {
-        let mut set = NumberSet::default();
-        for number in SetOf::<u32>::parse_data(data)? {
-            if set.count == set.members.len() {
-                return Err(ParseError::new(ParseErrorKind::InvalidValue));
+        asn1::parse(data, |members| {
+            let mut set = NumberSet::default();
+            while !members.is_empty() {
+                let number = members.read_element::<u32>()?;
+                let ascends = set.count == 0 || set.members[set.count - 1] < number;
+                if !ascends || set.count == set.members.len() {
+                    return Err(ParseError::new(ParseErrorKind::InvalidValue));
+                }
+                set.members[set.count] = number;
+                set.count += 1;
             }
-            set.members[set.count] = number;
-            set.count += 1;
-        }
-        Ok(Numbers(set))
+            Ok(Numbers(set))
+        })
     }
 }
 
@@ -137,7 +142,7 @@ struct KeyDescription<'a> {
 /// # Safety
 /// There are len bytes to be read.
 #[no_mangle]
-pub unsafe extern "C" fn peer_read(bytes: *const u8, len: usize) -> bool {
+pub unsafe extern "C" fn peer_read(bytes: *const u8, len: usize, _said: *mut Record) -> bool {
     let bytes = std::slice::from_raw_parts(bytes, len);
     let said = asn1::parse_single::<KeyDescription>(bytes);
     black_box(&said).is_ok()

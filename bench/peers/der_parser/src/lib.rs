@@ -9,15 +9,13 @@ use der_parser::error::{BerError, BerResult};
 use der_parser::nom::combinator::all_consuming;
 use der_parser::nom::Err;
 use record::{part_of, FieldList, NumberSet, Part, Record, RootOfTrust, Security, Summing};
-use std::hint::black_box;
 
 fn refused<T>(why: BerError) -> Result<T, Err<BerError>> {
     Err(Err::Error(why))
 }
 
 fn octets(i: &[u8]) -> BerResult<'_, &[u8]> {
-    let (rest, object) = parse_der_octetstring(i)?;
-    Ok((rest, object.as_slice().map_err(Err::Error)?))
+    parse_der_slice(i, DerTag::OctetString)
 }
 
 fn enumerated(i: &[u8]) -> BerResult<'_, u32> {
@@ -192,13 +190,10 @@ fn read<'a>(bytes: &'a [u8], out: &mut Record) -> BerResult<'a, ()> {
 }
 
 /// # Safety
-/// There are len bytes to be read.
+/// There are len bytes to be read, and a record to be written.
 #[no_mangle]
-pub unsafe extern "C" fn peer_read(bytes: *const u8, len: usize) -> bool {
-    let mut said = std::mem::MaybeUninit::<Record>::uninit();
-    let good = read(std::slice::from_raw_parts(bytes, len), &mut *said.as_mut_ptr()).is_ok();
-    black_box(&said);
-    good
+pub unsafe extern "C" fn peer_read(bytes: *const u8, len: usize, said: *mut Record) -> bool {
+    read(std::slice::from_raw_parts(bytes, len), &mut *said).is_ok()
 }
 
 /// # Safety
