@@ -1,0 +1,62 @@
+//! Reads, writes and rules on Android key attestation extensions (OID 1.3.6.1.4.1.11129.2.1.17), by the proved library
+//! libsculldrip.a.
+//!
+//! Any bytes can be read: they are accepted with all that they say, or refused with a number and a place. What was read can
+//! be listed, written again, and ruled on.
+//!
+//! ```
+//! use sculldrip::{Digest, Extension, Padding, Purpose, Request};
+//!
+//! let extension = Extension::read(&sculldrip::SAMPLE)?;
+//! print!("{extension}");
+//! let request = Request {
+//!     purpose: Purpose::SIGN,
+//!     digest: Digest::SHA_2_256,
+//!     padding: Padding::NONE,
+//!     clock: 1609459200000,
+//!     clock_floor: 1600000000000,
+//!     ..Default::default()
+//! };
+//! let permit = extension.rule(&request)?;
+//! assert_eq!(permit.hardware.bits, 32783);
+//! # Ok::<(), sculldrip::Refusal>(())
+//! ```
+#![warn(missing_docs)]
+
+mod calls;
+mod extension;
+mod field;
+mod image;
+mod record;
+mod refusal;
+mod request;
+pub mod sys;
+
+pub use extension::{BootState, Extension, Fields, Level, RootOfTrust};
+pub use field::{FlagField, List, NumberField, OctetField, SetField};
+pub use record::Record;
+pub use refusal::Refusal;
+pub use request::{Digest, Mark, Padding, Permit, Purpose, Request, Rule, Token};
+
+/// Lists any bytes: what they say where they are an extension, else one line with their refusal.
+///
+/// ```
+/// assert_eq!(sculldrip::listing(&[]), "refused 2 at 0\n");
+/// assert!(sculldrip::listing(&sculldrip::SAMPLE).starts_with("version 3 level 1\nkeymint 4 level 1\n"));
+/// ```
+pub fn listing(bytes: &[u8]) -> String {
+    calls::list(bytes)
+}
+
+/// A small extension of version 3, to try things with: a key that may sign from the start of 2021.
+///
+/// ```
+/// assert_eq!(sculldrip::Extension::read(&sculldrip::SAMPLE)?.elements(), 26);
+/// # Ok::<(), sculldrip::Refusal>(())
+/// ```
+pub const SAMPLE: [u8; 76] = [
+    0x30, 0x4A, 0x02, 0x01, 0x03, 0x0A, 0x01, 0x01, 0x02, 0x01, 0x04, 0x0A, 0x01, 0x01, 0x04, 0x03, 0x01, 0x02, 0x03, 0x04,
+    0x00, 0x30, 0x0C, 0xBF, 0x83, 0x10, 0x08, 0x02, 0x06, 0x01, 0x76, 0xBB, 0x3E, 0x70, 0x00, 0x30, 0x27, 0xA1, 0x05, 0x31,
+    0x03, 0x02, 0x01, 0x02, 0xA2, 0x03, 0x02, 0x01, 0x03, 0xA5, 0x05, 0x31, 0x03, 0x02, 0x01, 0x04, 0xA6, 0x05, 0x31, 0x03,
+    0x02, 0x01, 0x01, 0xBF, 0x83, 0x77, 0x02, 0x05, 0x00, 0xBF, 0x85, 0x3E, 0x03, 0x02, 0x01, 0x00,
+];
