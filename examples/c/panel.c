@@ -1,0 +1,124 @@
+/* panel FILE CLOCK [CHALLENGE]: what an extension says of a panel's key, whether the key may sign an alarm at CLOCK (ms since
+ * 1970), whether it may be taken on where CHALLENGE (hex) was asked for, and whether writing it gives the same bytes again.
+ *
+ *   gcc -Wall -Wextra -Werror -Iinclude examples/c/panel.c target/staticlib/libsculldrip.a -o target/panel
+ *   target/panel samples/document01.der 1609459200000 010203
+ *
+ * It answers 0 where the key may sign, 1 where it may not, and 2 where there is nothing to rule on. */
+#include <inttypes.h>
+#include <stdio.h>
+#include <stdlib.h>
+#include <string.h>
+
+#include "sculldrip.h"
+
+#define TEXT_BYTES (32768 + 56 * (SCULLDRIP_EXTENSION_BYTES + 1))
+#define SIGN 2
+#define SHA_256 4
+#define NO_PADDING 1
+#define CHALLENGE_BYTES 128
+
+/* No clock of a panel is before this: a lower one is dead or was set back. */
+#define CLOCK_FLOOR UINT64_C(1600000000000)
+
+/* One byte more than an extension has, so that a file that is too long is seen. */
+struct extension {
+    uint8_t bytes[SCULLDRIP_EXTENSION_BYTES + 1];
+    size_t length;
+};
+
+static int load(const char *path, struct extension *extension) {
+    FILE *file = fopen(path, "rb");
+    if (file == NULL) {
+        perror(path);
+        return 0;
+    }
+    extension->length = fread(extension->bytes, 1, sizeof extension->bytes, file);
+    int is_read = !ferror(file);
+    fclose(file);
+    return is_read;
+}
+
+static void print_refusal(const char *what, uint64_t answer) {
+    printf("%s refused %u at %" PRIu64 "\n", what, sculldrip_number(answer), sculldrip_rest(answer));
+}
+
+static void list(const struct extension *extension) {
+    static uint8_t text[TEXT_BYTES];
+    uint64_t answer = sculldrip_list(extension->bytes, extension->length, text, sizeof text);
+    if (sculldrip_number(answer) == 0)
+        fwrite(text, 1, (size_t)sculldrip_rest(answer), stdout);
+}
+
+/* The device is unlocked, the user present, and no token is there: 503 alone lets such a use pass. */
+static int may_sign(const uint64_t *image, uint64_t clock) {
+    const uint64_t request[SCULLDRIP_REQUEST_WORDS] = {
+        [0] = SIGN, [1] = SHA_256, [2] = NO_PADDING, [3] = clock, [4] = CLOCK_FLOOR, [12] = 1,
+    };
+    uint64_t permit[SCULLDRIP_PERMIT_WORDS];
+    uint64_t answer = sculldrip_rule(image, SCULLDRIP_IMAGE_WORDS, request, SCULLDRIP_REQUEST_WORDS, permit,
+                                     SCULLDRIP_PERMIT_WORDS);
+    if (sculldrip_number(answer) != 0) {
+        print_refusal("signing", answer);
+        return 0;
+    }
+    printf("signing permitted, hardware %" PRIu64 " (%" PRIu64 " bits), software %" PRIu64 " (%" PRIu64 " bits)\n",
+           permit[0], permit[1], permit[2], permit[3]);
+    return 1;
+}
+
+/* How many bytes the hex digits give; one more than a challenge may have where they give too many or are none. */
+static size_t from_hex(const char *digits, uint8_t *bytes) {
+    size_t count = strlen(digits) / 2;
+    if (strlen(digits) % 2 != 0 || count > CHALLENGE_BYTES)
+        return CHALLENGE_BYTES + 1;
+    for (size_t i = 0; i < count; i++) {
+        unsigned byte;
+        if (sscanf(digits + 2 * i, "%2x", &byte) != 1)
+            return CHALLENGE_BYTES + 1;
+        bytes[i] = (uint8_t)byte;
+    }
+    return count;
+}
+
+static void enrol(const uint64_t *image, const struct extension *extension, const char *challenge) {
+    uint8_t expected[CHALLENGE_BYTES + 1] = {0};
+    size_t length = from_hex(challenge, expected);
+    uint64_t answer = sculldrip_enrol(image, SCULLDRIP_IMAGE_WORDS, extension->bytes, extension->length, expected, length);
+    if (sculldrip_number(answer) == 0)
+        printf("enrolment yes\n");
+    else
+        print_refusal("enrolment", answer);
+}
+
+static void write_again(const uint64_t *image, const struct extension *extension) {
+    uint8_t output[SCULLDRIP_EXTENSION_BYTES];
+    uint64_t answer = sculldrip_write(image, SCULLDRIP_IMAGE_WORDS, extension->bytes, extension->length, output,
+                                      sizeof output);
+    if (sculldrip_number(answer) != 0) {
+        print_refusal("writing", answer);
+        return;
+    }
+    size_t length = (size_t)sculldrip_rest(answer);
+    int is_same = length == extension->length && memcmp(output, extension->bytes, length) == 0;
+    printf("written again: %s %zu bytes\n", is_same ? "the same" : "OTHER", length);
+}
+
+int main(int argc, char **argv) {
+    static struct extension extension;
+    static uint64_t image[SCULLDRIP_IMAGE_WORDS];
+    if (argc < 3 || argc > 4) {
+        fprintf(stderr, "usage: panel FILE CLOCK [CHALLENGE]\n");
+        return 2;
+    }
+    if (!load(argv[1], &extension))
+        return 2;
+    list(&extension);
+    if (sculldrip_number(sculldrip_read(extension.bytes, extension.length, image, SCULLDRIP_IMAGE_WORDS)) != 0)
+        return 2;
+    int permitted = may_sign(image, strtoull(argv[2], NULL, 10));
+    if (argc == 4)
+        enrol(image, &extension, argv[3]);
+    write_again(image, &extension);
+    return permitted ? 0 : 1;
+}
