@@ -338,11 +338,11 @@ impl Comparison {
     fn check(&mut self, what: &str, holds: bool, input: &dyn Fn() -> String) {
         if !holds {
             self.differences += 1;
-            println!("DIFFERENCE in {what}, seed {}: {}", self.seed, input());
+            say(&format!("DIFFERENCE in {what}, seed {}: {}\n", self.seed, input()));
         }
     }
 
-    /// Straight to standard error, which a passing test shows too: how far the inputs reached is worth seeing each time.
+    /// How far the inputs reached is worth seeing each time.
     fn print_histogram(&self, inputs: u64, first_seed: u64) {
         let mut text = format!("{inputs} inputs from seed {first_seed}, {} differences\n", self.differences);
         for (function, count) in &self.accepted {
@@ -351,7 +351,7 @@ impl Comparison {
         for (number, count) in self.answered.iter().enumerate().skip(1).filter(|(_, count)| **count > 0) {
             text += &format!("  refusal {number}: {count}\n");
         }
-        std::io::stderr().write_all(text.as_bytes()).expect("standard error takes text");
+        say(&text);
     }
 
     fn assert_every_answer_occurred(&self) {
@@ -362,6 +362,11 @@ impl Comparison {
             assert!(self.accepted.contains_key(function), "no input was accepted by {function}");
         }
     }
+}
+
+/// Straight to standard error: it is seen of a test that passes, and of one that a fault in the library ends.
+fn say(text: &str) {
+    std::io::stderr().write_all(text.as_bytes()).expect("standard error takes text");
 }
 
 fn length_of(wanted: &Result<Vec<u8>, Refusal>) -> Result<u64, Refusal> {
