@@ -328,7 +328,13 @@ pub struct Fields<'a> {
 
 macro_rules! getters {
     ($($(#[$doc:meta])* $method:ident: $kind:ident($field:path) -> $answer:ty,)*) => {
-        $($(#[$doc])* pub fn $method(self) -> $answer {
+        $($(#[$doc])*
+        #[doc = concat!(
+            "\n\n```\n# let extension = sculldrip::Extension::read(&sculldrip::SAMPLE)?;\n",
+            "let value: ", stringify!($answer), " = extension.list(sculldrip::List::Hardware).", stringify!($method), "();\n",
+            "# let _ = value;\n# Ok::<(), sculldrip::Refusal>(())\n```",
+        )]
+        pub fn $method(self) -> $answer {
             self.$kind($field)
         })*
     };
@@ -336,6 +342,13 @@ macro_rules! getters {
 
 impl<'a> Fields<'a> {
     /// The members of a set, if the list has it; a set without members is not an absent one.
+    ///
+    /// ```
+    /// # use sculldrip::{FlagField, List, NumberField, OctetField, SetField};
+    /// # let extension = sculldrip::Extension::read(&sculldrip::SAMPLE)?;
+    /// assert_eq!(extension.list(List::Hardware).set(SetField::Padding), Some(vec![1]));
+    /// # Ok::<(), sculldrip::Refusal>(())
+    /// ```
     pub fn set(self, field: SetField) -> Option<Vec<u32>> {
         let narrow = |&member: &u64| u32::try_from(member).expect("a member of an accepted extension has 32 bits");
         let members = self.extension.image.members(self.list, field)?;
@@ -343,21 +356,49 @@ impl<'a> Fields<'a> {
     }
 
     /// The number of a field, if the list has it.
+    ///
+    /// ```
+    /// # use sculldrip::{FlagField, List, NumberField, OctetField, SetField};
+    /// # let extension = sculldrip::Extension::read(&sculldrip::SAMPLE)?;
+    /// assert_eq!(extension.list(List::Hardware).number(NumberField::Origin), Some(0));
+    /// # Ok::<(), sculldrip::Refusal>(())
+    /// ```
     pub fn number(self, field: NumberField) -> Option<u64> {
         self.extension.image.number(self.list, field)
     }
 
     /// Whether the list has a field that holds nothing.
+    ///
+    /// ```
+    /// # use sculldrip::{FlagField, List, NumberField, OctetField, SetField};
+    /// # let extension = sculldrip::Extension::read(&sculldrip::SAMPLE)?;
+    /// assert!(!extension.list(List::Hardware).flag(FlagField::EarlyBootOnly));
+    /// # Ok::<(), sculldrip::Refusal>(())
+    /// ```
     pub fn flag(self, field: FlagField) -> bool {
         self.extension.image.flag(self.list, field)
     }
 
     /// The octets of a field, if the list has it.
+    ///
+    /// ```
+    /// # use sculldrip::{FlagField, List, NumberField, OctetField, SetField};
+    /// # let extension = sculldrip::Extension::read(&sculldrip::SAMPLE)?;
+    /// assert_eq!(extension.list(List::Hardware).octets(OctetField::IdImei), None);
+    /// # Ok::<(), sculldrip::Refusal>(())
+    /// ```
     pub fn octets(self, field: OctetField) -> Option<&'a [u8]> {
         self.extension.octets(self.list, u64::from(field.number()))
     }
 
     /// The root of trust, if the list has it.
+    ///
+    /// ```
+    /// # use sculldrip::{FlagField, List, NumberField, OctetField, SetField};
+    /// # let extension = sculldrip::Extension::read(&sculldrip::SAMPLE)?;
+    /// assert!(extension.list(List::Hardware).root_of_trust().is_none());
+    /// # Ok::<(), sculldrip::Refusal>(())
+    /// ```
     pub fn root_of_trust(self) -> Option<RootOfTrust<'a>> {
         let RootWords { key, locked, state, hash } = self.extension.image.root_of_trust(self.list)?;
         let octets = |part: Part| self.extension.octets_of(part);

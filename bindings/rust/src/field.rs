@@ -31,6 +31,10 @@ macro_rules! fields {
             pub const ALL: &'static [$name] = &[$($name::$variant),*];
 
             /// The number of the field's tag.
+            ///
+            /// ```
+            #[doc = concat!("assert!(sculldrip::", stringify!($name), "::ALL.iter().all(|field| field.number() > 0));")]
+            /// ```
             pub fn number(self) -> u16 {
                 self as u16
             }

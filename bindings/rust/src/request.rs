@@ -236,6 +236,13 @@ impl Mark {
     }
 
     /// Whether the list holds the rule's tag and it was looked at.
+    ///
+    /// ```
+    /// use sculldrip::{Mark, Rule};
+    ///
+    /// let mark = Mark { bits: 0b10_0000, count: 1 };
+    /// assert!(mark.has(Rule::Active) && !mark.has(Rule::Purpose));
+    /// ```
     pub fn has(self, rule: Rule) -> bool {
         self.bits & (1 << rule as u16) != 0
     }

@@ -3,7 +3,9 @@
 //! SCULLDRIP_INPUTS is how many inputs there are, SCULLDRIP_SEED the first one's seed: input i has seed + i, so that
 //! `SCULLDRIP_SEED=<seed> SCULLDRIP_INPUTS=1` makes just the input of a reported difference again.
 
+mod cases;
 mod generator;
+mod json;
 mod library;
 mod reference;
 
@@ -47,6 +49,44 @@ fn library_and_reference_agree() {
     }
 }
 
+/// The cases with given answers, of the library itself.
+#[test]
+fn library_passes_the_cases() {
+    let mut comparison = Comparison::new();
+    for case in cases::cases("reader") {
+        comparison.check_list(&case.member("hex").hex(), &mut Random::new(1));
+        assert_eq!(sculldrip::listing(&case.member("hex").hex()), case.member("listing").text());
+    }
+    for case in cases::cases("writer").iter().filter(|case| fits_an_image(&cases::record(case))) {
+        let room = case.member("outlen").number() as usize;
+        let wanted = cases::wanted(case, |want| want.member("ok").hex());
+        comparison.check_write_into(&image_of(case), &case.member("buffer").hex(), room, wanted);
+    }
+    for case in cases::cases("octets") {
+        let hardware = u64::from(case.member("list").text() == "hardware");
+        let asked = (hardware, case.member("number").number(), case.member("buffer_len").number() as usize);
+        comparison.check_asked_octets(&image_of(&case), asked, sys::PART_WORDS, cases::wanted_part(&case));
+    }
+    for case in cases::cases("ruling") {
+        let asked = requests::words(&cases::request(&case), &mut Random::new(1));
+        comparison.check_ruling(&image_of(&case), &asked, sys::PERMIT_WORDS, cases::wanted_permit(&case));
+    }
+    for case in cases::cases("enrol") {
+        let (buffer, expected) = (case.member("buffer").hex(), case.member("expected").hex());
+        comparison.check_enrolment(&image_of(&case), &buffer, &expected, cases::wanted(&case, |_| ()));
+    }
+    assert_eq!(comparison.differences, 0, "cases that the library answers otherwise, printed above");
+}
+
+fn image_of(case: &json::Json) -> Vec<u64> {
+    images::image(&cases::record(case), &mut Random::new(1))
+}
+
+/// An image has a place for the fields of the table alone.
+fn fits_an_image(record: &Record) -> bool {
+    record.lists().into_iter().all(|list| list.keys().all(|&number| table::kind(number).is_some()))
+}
+
 /// What the calls were, and how they were answered.
 struct Comparison {
     seed: u64,
@@ -86,6 +126,7 @@ impl Comparison {
         self.check_enrol(&image, &bytes, &expected, random);
         if random.once_in(8) {
             self.check_crate(&bytes, &record);
+            self.check_crate_rulings(&bytes, &record, &request, &expected);
         }
     }
 
@@ -253,17 +294,20 @@ impl Comparison {
         let words = lent_words(sys::IMAGE_WORDS, random);
         let request_words = lent_words(sys::REQUEST_WORDS, random);
         let permit_words = lent_words(sys::PERMIT_WORDS, random);
-        let lent = resized(image, words);
         let asked = resized(&requests::words(request, random), request_words);
-        let mut permit = vec![FILL; permit_words];
-        let answer = library::rule(&lent, &asked, &mut permit);
         let is_short = words < sys::IMAGE_WORDS || request_words < sys::REQUEST_WORDS || permit_words < sys::PERMIT_WORDS;
         let wanted = match (image::record_of(image), is_short) {
             (_, true) => refusal(SHORT),
             (None, _) => refusal(20),
             (Some(record), _) => rule(&record, request),
         };
-        let input = || format!("{} request {asked:?} permit words {permit_words}", words_text(&lent));
+        self.check_ruling(&resized(image, words), &asked, permit_words, wanted);
+    }
+
+    fn check_ruling(&mut self, image: &[u64], asked: &[u64], permit_words: usize, wanted: Result<Permit, Refusal>) {
+        let mut permit = vec![FILL; permit_words];
+        let answer = library::rule(image, asked, &mut permit);
+        let input = || format!("{} request {asked:?} permit words {permit_words}", words_text(image));
         self.check_answer("rule", answer, wanted.map(|_| 0), &input);
         let mut expected = vec![FILL; permit_words];
         if let Ok(Permit { hardware, software }) = wanted {
@@ -277,14 +321,17 @@ impl Comparison {
 
     fn check_enrol(&mut self, image: &[u64], buffer: &[u8], expected: &[u8], random: &mut Random) {
         let words = lent_words(sys::IMAGE_WORDS, random);
-        let lent = resized(image, words);
-        let answer = library::enrol(&lent, buffer, expected);
         let wanted = match (image::record_of(image), words < sys::IMAGE_WORDS) {
             (_, true) => refusal(SHORT),
             (None, _) => refusal(20),
             (Some(record), _) => enrol(&record, buffer, expected),
         };
-        let input = || format!("{} buffer {} expected {}", words_text(&lent), hex(buffer), hex(expected));
+        self.check_enrolment(&resized(image, words), buffer, expected, wanted);
+    }
+
+    fn check_enrolment(&mut self, image: &[u64], buffer: &[u8], expected: &[u8], wanted: Result<(), Refusal>) {
+        let answer = library::enrol(image, buffer, expected);
+        let input = || format!("{} buffer {} expected {}", words_text(image), hex(buffer), hex(expected));
         self.check_answer("enrol", answer, wanted.map(|()| 0), &input);
     }
 
@@ -311,6 +358,19 @@ impl Comparison {
                 record.list(is_hardware).iter().map(|(&number, value)| (number, text_of(value, bytes))).collect();
             self.check("crate: fields", got == want, &|| format!("{}\n  crate {got:?}\n  reference {want:?}", input()));
         }
+    }
+
+    fn check_crate_rulings(&mut self, bytes: &[u8], record: &Record, request: &Request, expected: &[u8]) {
+        let input = || format!("extension {} request {request:?} expected {}", hex(bytes), hex(expected));
+        let Ok(extension) = Extension::read(bytes) else { return };
+        let plain = |refusal: sculldrip::Refusal| Refusal { number: u64::from(refusal.number), place: refusal.place };
+        let permit = extension
+            .rule(&typed(request))
+            .map_err(plain)
+            .map(|permit| Permit { hardware: u64::from(permit.hardware.bits), software: u64::from(permit.software.bits) });
+        self.check("crate: use", permit == rule(record, request), &input);
+        let enrolled = extension.enrol(expected).map_err(plain);
+        self.check("crate: enrolment", enrolled == enrol(record, bytes, expected), &input);
     }
 
     /// Counts the reference's answer, and compares the library's with it.
@@ -379,10 +439,10 @@ fn refusal<T>(number: u64) -> Result<T, Refusal> {
 
 /// Mostly as many words as are needed; at times more, or too few.
 fn lent_words(needed: usize, random: &mut Random) -> usize {
-    match random.below(60) {
+    match random.below(150) {
         0 => needed - 1,
         1 => random.below(needed),
-        2 | 3 => needed + 1 + random.below(5),
+        2..=5 => needed + 1 + random.below(5),
         _ => needed,
     }
 }
@@ -438,6 +498,30 @@ fn expected_challenge(record: &Record, buffer: &[u8], random: &mut Random) -> Ve
         _ => {}
     }
     challenge
+}
+
+/// The request as the crate takes it. A token that is not there has nothing.
+fn typed(request: &Request) -> sculldrip::Request {
+    let token = request.token;
+    sculldrip::Request {
+        purpose: sculldrip::Purpose(request.purpose),
+        digest: sculldrip::Digest(request.digest),
+        padding: sculldrip::Padding(request.padding),
+        clock: request.clock,
+        clock_floor: request.floor,
+        uptime: request.uptime,
+        operation_handle: request.handle,
+        token: token.there.then_some(sculldrip::Token {
+            type_bits: token.kind,
+            uptime: token.time,
+            challenge: token.challenge,
+        }),
+        device_locked: request.locked,
+        user_present: request.present,
+        user_confirmed: request.confirmed,
+        early_boot_over: request.early_boot_over,
+        uses_so_far: request.uses,
+    }
 }
 
 /// The fields that the crate hands out, as numbers and texts.

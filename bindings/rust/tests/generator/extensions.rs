@@ -21,6 +21,9 @@ pub fn extension(random: &mut Random) -> Vec<u8> {
             change_bytes(&mut bytes, random);
         }
     }
+    if random.once_in(1000) {
+        bytes.resize(random.between(8193, 70_000), 0);
+    }
     bytes
 }
 

@@ -266,6 +266,9 @@ pub fn near(record: &Record, random: &mut Random) -> Request {
         token: Token { kind: own(numbers(rule::AUTH_TYPE), u64::MAX), ..Token::default() },
         ..Request::default()
     };
+    if random.below(4) > 0 {
+        request.purpose = random.pick(&[rule::DECRYPT, rule::SIGN, rule::AGREE_KEY, rule::ATTEST_KEY]);
+    }
     request.token.there = random.below(4) > 0;
     request.token.time = random.pick(&[0, 1, request.uptime, request.uptime.wrapping_add(1)]);
     request.token.challenge = random.beside(request.handle);
