@@ -31,10 +31,10 @@
  *   194       rootOfTrust: key start, key length, locked (1 or 0), boot state, 1 where there is a boot hash else 0,
  *             hash start, hash length
  *
- * Row k is that of the k-th field number, from 0, in SCULLDRIP_FIELD_NUMBERS. An absent field's words are never looked at,
- * nor are slots past a count. Words of a version, a level, a member or the state hold 32 bits, and flags are 0 or 1: an
- * image with another value in one of them is that of no record, and is refused with 20, as is a record that is not
- * well-shaped.
+ * Row k is that of the k-th field number, from 0, in SCULLDRIP_FIELD_NUMBERS. Words of a version, a level, a set's slot or a
+ * boot state hold 32 bits, and flags are 0 or 1, in absent fields too: an image with another value in one of them is that
+ * of no record, and is refused with 20, as is a record that is not well-shaped. For the rest, an absent field's words are
+ * never looked at, nor are slots past a count.
  */
 #ifndef SCULLDRIP_H
 #define SCULLDRIP_H
