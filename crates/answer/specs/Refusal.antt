@@ -164,3 +164,9 @@ bootNotVerified = 54
 -- the origin in the hardware list is absent or not 0
 abbrev pub originNotGenerated : ℕ
 originNotGenerated = 55
+
+-- ---- the C interface, include/sculldrip.h
+
+-- a lent image, request, permit or part has too few words
+abbrev pub shortImage : ℕ
+shortImage = 200

@@ -85,3 +85,7 @@ pub const BOOT_UNLOCKED: u8 = 53;
 pub const BOOT_NOT_VERIFIED: u8 = 54;
 // The origin in the hardware list is absent or not 0.
 pub const ORIGIN_NOT_GENERATED: u8 = 55;
+
+// The C interface; place 0.
+// A lent image, request, permit or part has too few words.
+pub const SHORT_IMAGE: u8 = 200;

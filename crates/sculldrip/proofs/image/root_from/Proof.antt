@@ -1,0 +1,40 @@
+-- `root_from` meets its contract, word by word. Assumes nothing.
+use native.Mathlib.Omega.{arith}
+use Rattle.sculldrip.proofs.Fits.{root-state}
+use Rattle.sculldrip.proofs.Parts.{root-made}
+use borrow.Author.Needs.{needs}
+use Rattle.sculldrip.proofs.image.root_from.Statement.{statement}
+use Rattle.sculldrip.proofs.image.root_from.Tie as tie
+
+part-from-requires : tie.Need-part-from-requires
+part-from-requires c κs = search needs
+
+part-from-requires-2 : tie.Need-part-from-requires-2
+part-from-requires-2 c κs = search needs
+
+shared-slice-read-t5 : tie.Need-shared-slice-read-t5
+shared-slice-read-t5 c = search needs
+
+shared-slice-read-t8 : tie.Need-shared-slice-read-t8
+shared-slice-read-t8 c = search needs
+
+cast-t9 : tie.Need-cast-t9
+cast-t9 c = omega (arith, root-state (c .before .before .before .before .before .args .words .now) (c .before .before .before .before .before .pre .1))
+
+shared-slice-read-t11 : tie.Need-shared-slice-read-t11
+shared-slice-read-t11 c = search needs
+
+returns : tie.Need-returns
+returns c = root-made _ (c .before .before .before .before .part-from .ensures) (c .before .before .before .part-from2 .ensures)
+
+pub root-from-spec : {M : Type 1} → statement M
+root-from-spec =
+    tie.close
+    (tie.spec
+    part-from-requires
+    part-from-requires-2
+    shared-slice-read-t5
+    shared-slice-read-t8
+    cast-t9
+    shared-slice-read-t11
+    returns)

@@ -1,0 +1,124 @@
+-- What each function of include/sculldrip.h answers and leaves, by the definitions that the rest of the project is proved
+-- against. Slices that are too short come first (200), then an image that is of no record (20); a refusal changes nothing.
+use mathlib.Core.Path.{_≡_}
+use mathlib.Core.Bool.{Bool, true, not}
+use mathlib.Core.Option.{Option, none, some}
+use mathlib.Core.List.{List, [], _∷_}
+use Prim.Native.Nat.{ℕ}
+use lib.ListN.{length, getD, drop}
+use lib.Dec.{T, eqb, leb}
+use Rattle.answer.specs.Answer.{Answer, got, refused, guard}
+use Rattle.answer.specs.Refusal.{illShaped, shortImage}
+use Rattle.codec.specs.Octets.{splice, left}
+use Rattle.schema.specs.Content.{Content}
+use Rattle.schema.specs.Decode.{read}
+use Rattle.records.specs.declared.Record.{Record}
+use Rattle.records.specs.Content.{contentOf}
+use Rattle.records.specs.Shape.{wellShapedRecord}
+use Rattle.records.specs.Parts.{partsInside}
+use Rattle.records.specs.Asked.{askedOctets}
+use Rattle.writer.specs.Written.{written, encodingOf}
+use Rattle.ruling.specs.Ruling.{Permit, ruling}
+use Rattle.ruling.specs.declared.request.Request.{Request}
+use Rattle.enrolment.specs.Enrolled.{enrolled}
+use Rattle.listing.specs.Room.{needed, listed}
+use Rattle.listing.specs.Text.{listing}
+use Rattle.sculldrip.specs.Image.{recordOf, wordsFit}
+
+-- at least n words, or 200
+abbrev pub atLeast : {A : Type 0} → ℕ → List ℕ → Answer A → Answer A
+atLeast n words next = guard (leb n (length words)) shortImage 0 next
+
+-- what is answered of an image's record
+abbrev pub ofImage : {A : Type 0} → List ℕ → (Record → Answer A) → Answer A
+ofImage image next = atLeast 410 image (guard (wordsFit image) illShaped 0 (next (recordOf image)))
+
+-- the count, length or 0 that stands beside what was answered
+abbrev pub counted : {A : Type 0} → (A → ℕ) → Answer A → Answer ℕ
+counted count (got a) = got (count a)
+counted count (refused number place) = refused number place
+
+-- the words of what was answered, at the front; not one changed where it is refused
+abbrev pub leaves : {A : Type 0} → (A → List ℕ) → Answer A → List ℕ → List ℕ
+leaves words (got a) old = splice old 0 (words a)
+leaves words (refused number place) old = old
+
+-- ---- sculldrip_read
+
+unfoldable pub readInto : List ℕ → List ℕ → Answer (Content × ℕ)
+readInto s image = atLeast 410 image (read s)
+
+-- an image that now has a record of this content in s; the words after it are as they were
+pub record Filled (s old new : List ℕ) (content : Content) : Type 0 where
+  pub says : contentOf (recordOf new) s ≡ content
+  pub fits : wordsFit new ≡ true
+  pub shaped : T (wellShapedRecord (recordOf new))
+  pub inside : T (partsInside (recordOf new) (length s))
+  pub rest : drop 410 new ≡ drop 410 old
+  pub sized : length new ≡ length old
+
+abbrev pub ReadLeaves : Answer (Content × ℕ) → List ℕ → List ℕ → List ℕ → Type 0
+ReadLeaves (got c) s old new = Filled s old new (c .0)
+ReadLeaves (refused number place) s old new = new ≡ old
+
+-- ---- sculldrip_write
+
+unfoldable pub writeImage : List ℕ → List ℕ → List ℕ → Answer ℕ
+writeImage image s out = ofImage image (λ r. written r s out)
+
+-- ---- sculldrip_octets
+
+-- 0 software, else hardware
+unfoldable pub askImage : List ℕ → ℕ → ℕ → ℕ → List ℕ → Answer (Option (ℕ × ℕ))
+askImage image hardware number len part = atLeast 2 part (ofImage image (λ r. askedOctets r (not (eqb hardware 0)) number len))
+
+abbrev pub asked : Option (ℕ × ℕ) → ℕ
+asked (some p) = 1
+asked none = 0
+
+abbrev pub partWords : Option (ℕ × ℕ) → List ℕ
+partWords (some p) = p .0 ∷ p .1 ∷ []
+partWords none = []
+
+-- ---- sculldrip_rule
+
+-- "A yes-or-no word is yes where it is not 0"
+abbrev pub isYes : ℕ → Bool
+isYes n = not (eqb n 0)
+
+-- "purpose, digest, padding, clock and clock floor, uptime, operation handle, whether there is a token, the token's type
+-- bits, uptime and challenge; whether the device is locked, the user present, the user's confirmation given, early boot
+-- over; uses so far"
+unfoldable pub requestOf : List ℕ → Request
+requestOf w = record {
+  purpose = getD w 0 0;
+  digest = getD w 1 0;
+  padding = getD w 2 0;
+  clock = getD w 3 0;
+  floor = getD w 4 0;
+  uptime = getD w 5 0;
+  handle = getD w 6 0;
+  token = record { there = isYes (getD w 7 0); kinds = getD w 8 0; time = getD w 9 0; challenge = getD w 10 0 };
+  locked = isYes (getD w 11 0);
+  present = isYes (getD w 12 0);
+  confirmed = isYes (getD w 13 0);
+  booted = isYes (getD w 14 0);
+  uses = getD w 15 0;
+}
+
+-- "the hardware mark, how many bits it has, the software mark, how many bits it has"
+abbrev pub permitWords : Permit → List ℕ
+permitWords p = p .hardware ∷ p .hardwareBits ∷ p .software ∷ p .softwareBits ∷ []
+
+unfoldable pub ruleImage : List ℕ → List ℕ → List ℕ → Answer Permit
+ruleImage image request permit = atLeast 16 request (atLeast 4 permit (ofImage image (λ r. ruling r (requestOf request))))
+
+-- ---- sculldrip_enrol
+
+unfoldable pub enrolImage : List ℕ → List ℕ → List ℕ → Answer (Unit {0})
+enrolImage image s expected = ofImage image (λ r. enrolled r s expected)
+
+-- ---- sculldrip_list
+
+unfoldable pub listInto : List ℕ → List ℕ → Answer ℕ
+listInto s out = listed (needed (length s)) out (listing (read s))

@@ -1,0 +1,4 @@
+pub mod Image
+pub mod Whole
+pub mod Packed
+pub mod Calls
