@@ -4,5 +4,6 @@ pub mod Parts
 pub mod Puts
 pub mod RoundTrip
 pub mod Calls
+pub mod Again
 pub mod Filled
 pub mod Listings
