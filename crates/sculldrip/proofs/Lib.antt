@@ -1,4 +1,5 @@
 pub mod Copies
+pub mod Unpacked
 pub mod Fits
 pub mod Parts
 pub mod Puts
