@@ -52,7 +52,7 @@ extern "C" {
 #define SCULLDRIP_PART_WORDS 2
 #define SCULLDRIP_EXTENSION_BYTES 8192
 
-/* The lent image, request, permit or part has too few words. */
+/* A lent image, request, permit or part has too few words. */
 #define SCULLDRIP_SHORT_IMAGE 200
 
 #define SCULLDRIP_FIELD_NUMBERS                                                                                        \

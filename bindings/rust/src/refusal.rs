@@ -150,7 +150,7 @@ const SENTENCES: [(u8, &str); 41] = [
     (53, "The device's boot loader is unlocked."),
     (54, "The boot state is SelfSigned (1), Unverified (2) or Failed (3)."),
     (55, "The hardware list has no origin [702], or the key was not made inside the hardware."),
-    (200, "The lent image, request, permit or part has too few words."),
+    (200, "A lent image, request, permit or part has too few words."),
 ];
 
 #[cfg(test)]
