@@ -1,8 +1,5 @@
 // Sculldrip's proved read, whose record is handed out by value.
-#include "record.h"
-
-typedef struct { size_t elements; record said; } handed_out;
-extern handed_out bench_read_record(const uint8_t *bytes, size_t len);
+#include "../record.h"
 
 bool peer_read(const uint8_t *bytes, size_t len, record *said) {
     (void)said;

@@ -62,7 +62,7 @@ static int may_sign(const uint64_t *image, uint64_t clock) {
         print_refusal("signing", answer);
         return 0;
     }
-    printf("signing permitted, hardware %" PRIu64 " (%" PRIu64 " bits), software %" PRIu64 " (%" PRIu64 " bits)\n",
+    printf("signing permitted, hardware %" PRIu64 " (bits: %" PRIu64 "), software %" PRIu64 " (bits: %" PRIu64 ")\n",
            permit[0], permit[1], permit[2], permit[3]);
     return 1;
 }

@@ -175,24 +175,6 @@ pub octets-line : (word bs : List ℕ) (k : ℕ) {old o₁ o₂ new : List ℕ} 
 unfolding octetsLine
 octets-line word bs k e₁ e₂ e₃ = within (length word + 2 * k + 2) (omega arith) (joined e₁ (joined e₂ e₃))
 
--- ---- which set a field number names
-
-pub set-purpose : (l : FieldList) (n : ℕ) → n ≡ 1 → l .purpose ≡ setAt l n
-unfolding pick
-set-purpose l n e = rw e refl
-
-pub set-digest : (l : FieldList) (n : ℕ) → n ≡ 5 → l .digest ≡ setAt l n
-unfolding pick
-set-digest l n e = rw e refl
-
-pub set-padding : (l : FieldList) (n : ℕ) → n ≡ 6 → l .padding ≡ setAt l n
-unfolding pick
-set-padding l n e = rw e refl
-
-pub set-mgf : (l : FieldList) (n : ℕ) → (n ≡ 1 → ⊥) → (n ≡ 5 → ⊥) → (n ≡ 6 → ⊥) → l .mgf ≡ setAt l n
-unfolding pick
-set-mgf l n a b d = rw (ne-eqb n 1 a, ne-eqb n 5 b, ne-eqb n 6 d) refl
-
 -- ---- a value, by its row's kind
 
 abbrev pub Valued : FieldList → List ℕ → ℕ → ℕ → Kind → List ℕ → ℕ → List ℕ → ℕ → Type 0

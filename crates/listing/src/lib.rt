@@ -8,6 +8,7 @@ use records::Part;
 use records::Record;
 use records::RootOfTrust;
 use records::Security;
+use records::shape::set_at;
 use schema::Kind;
 use schema::Row;
 ghost use mathlib.Core.Path.{_≡_};
@@ -16,7 +17,7 @@ ghost use Prim.Native.Nat.{_+_, _*_, _<_, _≤_};
 ghost use lib.ListN.{length, drop};
 ghost use Rattle.codec.specs.Octets.{left};
 ghost use Rattle.schema.specs.Rows.{ofKind};
-ghost use Rattle.records.specs.Content.{partOf, membersOf, rootOf, setAt, valueAt, fieldsOf, contentOf};
+ghost use Rattle.records.specs.Content.{partOf, membersOf, rootOf, valueAt, fieldsOf, contentOf};
 ghost use Rattle.listing.specs.Text.{dash, decimal, hexDigit, hexText, octetsText, moreNumbers, numbersText, lockedText, stateText, rootText, valueText, named, numbersLine, octetsLine, fieldLine, fieldLines, countLine, headText, contentText, refusalText};
 ghost use Rattle.listing.specs.Put.{Puts};
 ghost use Rattle.listing.specs.Room.{parts, fieldOf, lineRoom, needed, refusalNeeded, ofListed, listed};
@@ -192,22 +193,6 @@ fn put_octets(out: &mut [u8], at: usize, word: &[u8], s: &[u8], part: Part) -> u
     let p = put_text(out, at, word);
     let q = put_part(out, p, s, part);
     put_octet(out, q, b'\n')
-}
-
-// The set of a list that a field number names.
-fn set_at(l: FieldList, number: usize) -> NumberSet
-    ensures { λ r. ⌜ r ≡ setAt l number ⌝ }
-{
-    if number == 1 {
-        return l.purpose;
-    }
-    if number == 5 {
-        return l.digest;
-    }
-    if number == 6 {
-        return l.padding;
-    }
-    l.mgf
 }
 
 // The value of a row of a list, by its kind.

@@ -32,8 +32,8 @@ use Rattle.records.proofs.ShapedContent.{shaped-content}
 use Rattle.reader.specs.declared.Outcome.{Outcome}
 use Rattle.reader.specs.Reading.{ofReading, Reads}
 use Rattle.writer.specs.declared.Written.{Written}
-use Rattle.writer.specs.Written.{encodingOf, writable, written, ofWritten}
-use Rattle.one_record.specs.Contracts.{ReadsAs, Writes}
+use Rattle.writer.specs.Written.{encodingOf, writable, written, ofWritten, Writes}
+use Rattle.one_record.specs.Contracts.{ReadsAs}
 use Rattle.one_record.specs.Statements.{AcceptedExactly, EqualSameBytes, Encodable, EncodingAccepted, ReadsBackEqual, OnlyEncoding, EncodingSmall, WritesJustThat, RefusedUntouched, RefusesInOrder, WriteRefuses, WriteOfRead, ReadOfWrite}
 use Rattle.one_record.proofs.ContentOctets.{content-octets}
 

@@ -21,8 +21,8 @@ use Rattle.records.specs.declared.Record.{Record}
 use Rattle.reader.specs.declared.Outcome.{Outcome}
 use Rattle.reader.specs.Reading.{Reads}
 use Rattle.writer.specs.declared.Written.{Written}
-use Rattle.writer.specs.Written.{encodingOf}
-use Rattle.one_record.specs.Contracts.{ReadsAs, Writes}
+use Rattle.writer.specs.Written.{encodingOf, Writes}
+use Rattle.one_record.specs.Contracts.{ReadsAs}
 
 -- "An extension is read exactly when it is DER of the published schema of its version, within document 01's limits": bytes
 -- are accepted if and only if they are the encoding of some well-shaped content and at most 8,192 long
@@ -86,14 +86,14 @@ RefusedUntouched =
     → after ≡ out
 
 -- "Writer: 20, 22, 21": the first of them that applies, at place 0
-pub record RefusesInOrder (r : Record) (s out after : List ℕ) (w : Written) : Type 0 where
+pub record RefusesInOrder (r : Record) (s out : List ℕ) (w : Written) : Type 0 where
   pub unshaped : (T (wellShapedRecord r) → ⊥) → w ≡ Written.Refused 20 0
   pub outside : (T (partsInside r (length s)) → ⊥) → w ≡ Written.Refused 20 0
   pub long : T (wellShapedRecord r) → T (partsInside r (length s)) → 8192 < length (encodingOf r s) → w ≡ Written.Refused 22 0
   pub narrow : T (wellShapedRecord r) → T (partsInside r (length s)) → length (encodingOf r s) ≤ 8192 → length out < length (encodingOf r s) → w ≡ Written.Refused 21 0
 
 abbrev pub WriteRefuses : Type 0
-WriteRefuses = (r : Record) (s out after : List ℕ) (w : Written) → Writes r s out w after → RefusesInOrder r s out after w
+WriteRefuses = (r : Record) (s out after : List ℕ) (w : Written) → Writes r s out w after → RefusesInOrder r s out w
 
 -- write(read(b)) is b
 abbrev pub WriteOfRead : Type 0

@@ -23,8 +23,7 @@ use Rattle.reader.specs.declared.Outcome.{Outcome}
 use Rattle.reader.specs.Reading.{ofReading, RefusedEmpty, AcceptedSound, Reads}
 use Rattle.reader.proofs.Spelled.{octets-all}
 use Rattle.writer.specs.declared.Written.{Written}
-use Rattle.writer.specs.Written.{encodingOf, writable, ofWritten, written, leftBy}
-use Rattle.one_record.specs.Contracts.{Writes}
+use Rattle.writer.specs.Written.{encodingOf, writable, ofWritten, written, leftBy, Writes}
 use Rattle.one_record.proofs.OneRecord.{read-encodable, wrote-encodable, read-of-write}
 use Rattle.round_trip.specs.Again.{writtenAgain, ReadAgain}
 

@@ -1,5 +1,6 @@
 -- Document 01, "Numbers of the reader and writer": "Writer: 20, 22, 21; a refusal leaves the output untouched, success
 -- changes exactly the encoding's bytes at its front".
+use mathlib.Core.Path.{_≡_}
 use mathlib.Core.Bool.{Bool, _&&_}
 use mathlib.Core.List.{List}
 use Prim.Native.Nat.{ℕ}
@@ -39,3 +40,8 @@ leftBy r s out = left (written r s out) out 0 (encodingOf r s)
 abbrev pub ofWritten : Written → Answer ℕ
 ofWritten (Written.Wrote n) = got n
 ofWritten (Written.Refused number place) = refused number place
+
+-- all that the contract of `write` says: writing the record r, its parts in s, answers w and leaves after where the output was out
+pub record Writes (r : Record) (s out : List ℕ) (w : Written) (after : List ℕ) : Type 0 where
+  pub answer : ofWritten w ≡ written r s out
+  pub output : after ≡ leftBy r s out
