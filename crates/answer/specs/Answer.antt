@@ -21,3 +21,8 @@ bind (refused number place) next = refused number place
 unfoldable pub pick : {A : Type 0} → Bool → A → A → A
 pick true a b = a
 pick false a b = b
+
+-- the same answer, its value taken through f
+unfoldable pub mapAnswer : {A B : Type 0} → (A → B) → Answer A → Answer B
+mapAnswer f (got a) = got (f a)
+mapAnswer f (refused number place) = refused number place

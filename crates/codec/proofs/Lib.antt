@@ -8,3 +8,5 @@ pub mod Element
 pub mod Chain
 pub mod Tree
 pub mod Walks
+pub mod Follow
+pub mod Encoded

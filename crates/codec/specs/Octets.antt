@@ -20,6 +20,10 @@ pub record Taken (A : Type 0) : Type 0 where
 abbrev pub taken : {A : Type 0} → A → ℕ → List ℕ → Taken A
 taken a p r = record { val = a; next = p; rest = r }
 
+-- the same, its value taken through f
+abbrev pub mapTaken : {A B : Type 0} → (A → B) → Taken A → Taken B
+mapTaken f w = taken (f (w .val)) (w .next) (w .rest)
+
 -- octets are taken one at a time: the next one, the place after it and the rest; where none is left, refusal 2 there
 unfoldable pub octet : {A : Type 0} → ℕ → List ℕ → (ℕ → ℕ → List ℕ → Answer A) → Answer A
 octet p [] k = refused runsOut p

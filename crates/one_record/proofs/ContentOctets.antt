@@ -36,7 +36,7 @@ module _ (l : FieldList) (s : List ℕ) (o : Octets s) where
   hash true a z = part a z s o
   hash false a z = tt
 
-  value : (n k : ℕ) (q : Kind) → ValueOctets (valueAt l s n q k)
+  value : (n k : ℕ) (q : Kind) → ValueOctets (valueAt l (octetsAt s) n q k)
   unfolding valueAt
   value n k set = tt
   value n k number32 = tt
@@ -45,15 +45,15 @@ module _ (l : FieldList) (s : List ℕ) (o : Octets s) where
   value n k octets = part (getD (l .values) k 0) (getD (l .sizes) k 0) s o
   value n k root = (part (l .root .key .start) (l .root .key .len) s o, hash (l .root .hashed) (l .root .hash .start) (l .root .hash .len))
 
-  one : (k : ℕ) (b : Bool) → FieldsOctets (pick b (field (rowAt k .number) (valueAt l s (rowAt k .number) (rowAt k .kind) k) ∷ []) [])
+  one : (k : ℕ) (b : Bool) → FieldsOctets (pick b (field (rowAt k .number) (valueAt l (octetsAt s) (rowAt k .number) (rowAt k .kind) k) ∷ []) [])
   unfolding pick
   one k true = (value (rowAt k .number) k (rowAt k .kind), tt)
   one k false = tt
 
-  rows : (n : ℕ) → FieldsOctets (upTo (fieldAt l s) n)
+  rows : (n : ℕ) → FieldsOctets (upTo (fieldAt l (octetsAt s)) n)
   unfolding upTo fieldAt
   rows zero = tt
-  rows (suc n) = both (upTo (fieldAt l s) n) (fieldAt l s n) (rows n) (one n (getD (l .present) n false))
+  rows (suc n) = both (upTo (fieldAt l (octetsAt s)) n) (fieldAt l (octetsAt s) n) (rows n) (one n (getD (l .present) n false))
 
 -- the octets of a record's content are those of its buffer
 pub content-octets : (r : Record) (s : List ℕ) → Octets s → ContentOctets (contentOf r s)

@@ -10,23 +10,26 @@ use lib.ListN.{length, take, drop}
 use lib.Seq.{take-append-seam}
 use lib.Dec.{T, leb, leb→le, le→leb}
 use borrow.Author.Tests.{lt-leb}
-use Rattle.answer.specs.Answer.{Answer, got, refused, guard}
+use Rattle.answer.specs.Answer.{Answer, got, refused, guard, mapAnswer}
 use Rattle.answer.proofs.Answer.{got-inj, refused-got, guard-yes, guard-case}
 use Rattle.answer.proofs.Logic.{and-left, and-right, and-both}
 use Rattle.codec.specs.Octets.{Octets, splice, left}
 use Rattle.codec.proofs.Walks.{top}
 use Rattle.schema.specs.Content.{Content, encode}
 use Rattle.schema.specs.Count.{countOf}
-use Rattle.schema.specs.Decode.{read}
+use Rattle.schema.specs.Decode.{read, readPlaces}
+use Rattle.schema.proofs.Places.{octets-at-places}
 use Rattle.schema.proofs.Accepted as accepted
 use Rattle.schema.proofs.Accepted.{read-encode, read-sound, read-injective}
 use Rattle.schema.proofs.Count.{encode-one, count-few}
 use Rattle.schema.proofs.Shape.{shaped-good}
-use Rattle.records.specs.Content.{contentOf}
+use Rattle.schema.proofs.Encoded.{encode-octets}
+use Rattle.records.specs.Content.{octetsAt, contentOf}
 use Rattle.records.specs.Shape.{wellShapedRecord}
 use Rattle.records.specs.Parts.{partsInside}
 use Rattle.records.specs.Equal.{Equal}
 use Rattle.records.specs.declared.Record.{Record}
+use Rattle.records.proofs.PlacesRead.{places-read}
 use Rattle.records.proofs.Equal.{equal-content, content-equal}
 use Rattle.records.proofs.ShapedContent.{shaped-content}
 use Rattle.reader.specs.declared.Outcome.{Outcome}
@@ -44,24 +47,28 @@ accepted-exactly = accepted.accepted-exactly
 
 pub equal-same-bytes : EqualSameBytes
 equal-same-bytes xs ys r r′ n m o p h g =
-    let i = read-injective xs ys (contentOf r xs) (contentOf r′ ys) n m o p (sym (h .is)) (sym (g .is)) in
+    let i = read-injective xs ys (contentOf r xs) (contentOf r′ ys) n m o p (places-read r xs n o (sym (h .is))) (places-read r′ ys m p (sym (g .is))) in
     (λ e. i .0 (equal-content r xs r′ ys e), λ e. content-equal r xs r′ ys (i .1 e))
 
 -- ---- one encoding
 
 -- two answers that stand for the same, where one accepts
-outcome-is : (s : List ℕ) (o : Outcome) (r : Record) (c : Content) (n : ℕ) → ofReading s o r ≡ got (c, n) → (o ≡ Outcome.Accepted n) × (contentOf r s ≡ c)
-outcome-is s (Outcome.Accepted k) r c n e =
-    let q = got-inj e in
+outcome-is : (s : List ℕ) (o : Outcome) (r : Record) (c : Content) (n : ℕ) → Octets s → ofReading o r ≡ readPlaces s → read s ≡ got (c, n) → (o ≡ Outcome.Accepted n) × (contentOf r s ≡ c)
+unfolding mapAnswer
+outcome-is s (Outcome.Accepted k) r c n b e g =
+    let q : _≡_ {A = Content × ℕ} (contentOf r s, k) (c, n) = got-inj (sym (places-read r s k b (sym e)) ∙ g) in
     (ap Outcome.Accepted (ap (λ (x : Content × ℕ). x .1) q), ap (λ (x : Content × ℕ). x .0) q)
-outcome-is s (Outcome.Refused k p) r c n e = absurd (refused-got e)
+outcome-is s (Outcome.Refused k p) r c n b e g = absurd (refused-got (rw (← e) at (sym (octets-at-places s b)) ∙ g))
 
 module _ (r : Record) (s : List ℕ) (h : Encodable r s) where
   back : read (encodingOf r s) ≡ got (contentOf r s, countOf (contentOf r s))
-  back = read-encode (contentOf r s) (shaped-content r s (h .shaped)) (content-octets r s (h .octets)) (h .short)
+  back = read-encode (contentOf r s) (shaped-content r (octetsAt s) (h .shaped)) (content-octets r s (h .octets)) (h .short)
+
+  spelt : Octets (encodingOf r s)
+  spelt = encode-octets (contentOf r s) (shaped-good (contentOf r s) (shaped-content r (octetsAt s) (h .shaped)) (content-octets r s (h .octets)) (h .short))
 
   answers : (o : Outcome) (r′ : Record) → Reads (encodingOf r s) o r′ → (o ≡ Outcome.Accepted (countOf (contentOf r s))) × (contentOf r′ (encodingOf r s) ≡ contentOf r s)
-  answers o r′ g = outcome-is (encodingOf r s) o r′ (contentOf r s) (countOf (contentOf r s)) (g .is ∙ back)
+  answers o r′ g = outcome-is (encodingOf r s) o r′ (contentOf r s) (countOf (contentOf r s)) spelt (g .is) back
 
 pub encoding-accepted : EncodingAccepted
 encoding-accepted r s h o r′ g = answers r s h o r′ g .0
@@ -70,12 +77,12 @@ pub reads-back-equal : ReadsBackEqual
 reads-back-equal r s h o r′ g = content-equal r s r′ (encodingOf r s) (sym (answers r s h o r′ g .1))
 
 pub only-encoding : OnlyEncoding
-only-encoding r s h bs r′ n o g e = sym (read-sound bs (contentOf r′ bs) n o (sym (g .is)) .2) ∙ ap encode (sym (equal-content r s r′ bs e))
+only-encoding r s h bs r′ n o g e = sym (read-sound bs (contentOf r′ bs) n o (places-read r′ bs n o (sym (g .is))) .2) ∙ ap encode (sym (equal-content r s r′ bs e))
 
 pub encoding-small : EncodingSmall
 encoding-small r s h =
     let c = contentOf r s in
-    let t = shaped-content r s (h .shaped) in
+    let t = shaped-content r (octetsAt s) (h .shaped) in
     top 8192 5 313 (encode-one 0 c (shaped-good c t (content-octets r s (h .octets)) (h .short))) (count-few c t) (h .short)
 
 -- ---- the writer
@@ -155,7 +162,7 @@ write-refuses r s out after w g = record {
 -- the record of an accepted extension is encodable, and its encoding is the extension
 pub read-encodable : (b : List ℕ) (r : Record) (n : ℕ) → Octets b → ReadsAs b r n → Encodable r b × (encodingOf r b ≡ b)
 read-encodable b r n o g =
-    let s = read-sound b (contentOf r b) n o (sym (g .is)) in
+    let s = read-sound b (contentOf r b) n o (places-read r b n o (sym (g .is))) in
     (record { shaped = g .sound .0; inside = g .sound .1; octets = o; short = rw (s .2) (s .3) }, s .2)
 
 pub write-of-read : WriteOfRead

@@ -1,45 +1,52 @@
--- What a record's sets and octet parts keep to while it is filled: an empty list does, and a list with a field more that
--- does. With the content's shape that makes the record well-shaped and its parts inside. Assumes nothing.
-use mathlib.Core.Path.{_≡_, refl, sym, subst}
-use mathlib.Core.Bool.{Bool, true, false, not}
+-- What a record's sets and octet parts keep to while it is filled, and that what is absent or spare is zero: an empty list
+-- does, and a list with a field more that does. With the content's shape that makes the record well-shaped, its parts inside
+-- and it the one that its places make. Assumes nothing.
+use mathlib.Core.Path.{_≡_, refl, sym, subst, _∙_}
+use mathlib.Core.Bool.{Bool, true, false, not, _&&_}
 use mathlib.Core.List.{List, [], _∷_}
 use Prim.Native.Nat.{ℕ, zero, suc, _+_, _<_, _≤_}
 use native.Mathlib.Omega.{arith}
 use mir.Val.{Fits}
 use mir.Syntax.{w8, w64}
 use lib.Dec.{T, eqb, leb, le→leb}
-use lib.ListN.{length, getD, set, replicate, getD-replicate}
+use lib.ListN.{length, getD, set, replicate, length-set, getD-replicate}
 use lib.Seq.{getD-set-same, getD-set-other}
+use borrow.Author.Tests.{eq-eqb, ne-eqb}
 use Rattle.answer.specs.Answer.{got, pick}
 use Rattle.answer.proofs.Logic.{and-both, by-le}
 use Rattle.codec.specs.Octets.{Octets}
 use Rattle.schema.specs.Table as table
 use Rattle.schema.specs.Table.{rowAt}
 use Rattle.schema.specs.Rows.{ofKind}
-use Rattle.schema.specs.Decode.{read}
+use Rattle.schema.specs.Decode.{readPlaces}
 use Rattle.schema.specs.declared.Kind.{Kind}
 use Rattle.schema.proofs.Accepted.{read-sound}
-use Rattle.records.specs.Content.{contentOf}
+use Rattle.records.specs.Content.{octetsAt, contentOf, placesOf}
 use Rattle.records.specs.Rows.{allBelow}
+use Rattle.records.specs.Equal.{presentAt}
 use Rattle.records.specs.Slots.{SetInSlots, InSlots}
 use Rattle.records.specs.Parts.{partInside, rootInside, contentInside, rowInside, listInside, partsInside}
 use Rattle.records.specs.Shape.{wellShapedRecord}
+use Rattle.records.specs.Empty.{emptySet, emptyRoot, emptyList, emptyRecord}
+use Rattle.records.specs.Clear.{usesValue, usesSize, SpareClear, HashClear, SetClear, RootClear, Sized, ListClear}
+use Rattle.records.specs.Made.{recordMade}
 use Rattle.records.specs.declared.NumberSet.{NumberSet}
 use Rattle.records.specs.declared.RootOfTrust.{RootOfTrust}
 use Rattle.records.specs.declared.FieldList.{FieldList}
 use Rattle.records.specs.declared.Part.{Part}
 use Rattle.records.specs.declared.Security.{Security}
 use Rattle.records.specs.declared.Record.{Record}
+use Rattle.records.proofs.PlacesRead.{places-read}
+use Rattle.records.proofs.Made.{record-made}
 use Rattle.records.proofs.ContentShaped.{content-shaped, all-of}
 use Rattle.reader.specs.Leaf.{OctetsInside}
-use Rattle.reader.specs.Empty.{emptySet, emptyRoot, emptyList, emptyRecord}
 use Rattle.reader.specs.Content.{plainContent}
-use Rattle.reader.specs.Root.{PartsIn, RootInside}
+use Rattle.reader.specs.Root.{HashedAs, PartsIn, RootInside}
 use Rattle.reader.specs.Lists.{withField}
 use Rattle.reader.specs.Head.{HeadInside}
 use Rattle.reader.specs.Reading.{ofReading, AcceptedSound}
 use Rattle.reader.specs.Eight.{refusedEight, refusedReading}
-use Rattle.reader.specs.Inside.{StepSlots, PlainIn, ContentIn, ListIn, RecordIn}
+use Rattle.reader.specs.Inside.{StepSlots, ContentIn, ContentKept, ListIn, RecordIn}
 use Rattle.reader.specs.declared.set.Step.{Step}
 use Rattle.reader.specs.declared.leaf.Octets as leaf
 use Rattle.reader.specs.declared.root.Root as roots
@@ -49,68 +56,73 @@ use Rattle.reader.specs.declared.content.ContentRead.{ContentRead}
 use Rattle.reader.specs.declared.Outcome.{Outcome}
 use Rattle.reader.specs.declared.Reading.{Reading}
 use Rattle.reader.proofs.Spelled.{octets-all}
-use Rattle.reader.proofs.Lists.{Sized}
+use Rattle.reader.proofs.Lists.{stored-sized, empty-sized}
 
 -- ---- one content
 
+empty-spare : SpareClear emptySet
+empty-spare k p q = getD-replicate {A = ℕ} 16 k 0 0 q
+
+differ : true ≡ false → ⊥
+differ e = let z : _≡_ {A = ℕ} 0 1 = cc in omega arith
+
+hash-clear : (h : Bool) (t : RootOfTrust) → HashedAs h t → HashClear t
+hash-clear true t e q = absurd (differ (sym e ∙ q))
+hash-clear false t e q = e .1
+
 module _ (n : ℕ) where
-  pub plain-in : (t : Step) (v z : ℕ) (c : ContentRead) → c ≡ plainContent t v z → PlainIn n c
-  plain-in t v z c e = rw e ((omega arith, refl), (omega arith, omega arith))
+  plain-in : (value size : Bool) (t : Step) (v z : ℕ) → (value ≡ false → v ≡ 0) → (size ≡ false → z ≡ 0) → (size ≡ true → v + z ≤ n) → ContentIn value size n (plainContent t v z)
+  plain-in value size t v z a b o = record {
+    set = (omega arith, refl);
+    spare = empty-spare;
+    root = (omega arith, omega arith);
+    hash = λ e. refl;
+    noValue = a;
+    noSize = b;
+    octet = o;
+  }
 
-  -- nothing was read
-  pub none-in : (t : Step) (c : ContentRead) → c ≡ plainContent t 0 0 → c .value + c .size ≤ n
-  none-in t c e = rw e (omega arith)
+  -- nothing was read, or a NULL
+  pub none-in : (value size : Bool) (t : Step) (c : ContentRead) → c ≡ plainContent t 0 0 → ContentIn value size n c
+  none-in value size t c e = rw e (plain-in value size t 0 0 (λ q. refl) (λ q. refl) (λ q. omega arith))
 
-  pub octets-in : (at end b m x : ℕ) (r : leaf.Octets) (t : Step) (c : ContentRead) → end ≤ n → OctetsInside at end r → r ≡ leaf.Octets.Is b m x → c ≡ plainContent t b m → c .value + c .size ≤ n
+  pub number-in : (t : Step) (v : ℕ) (c : ContentRead) → c ≡ plainContent t v 0 → ContentIn true false n c
+  number-in t v c e = rw e (plain-in true false t v 0 (λ q. absurd (differ q)) (λ q. refl) (λ q. absurd (differ (sym q))))
+
+  pub octets-in : (at end b m x : ℕ) (r : leaf.Octets) (t : Step) (c : ContentRead) → end ≤ n → OctetsInside at end r → r ≡ leaf.Octets.Is b m x → c ≡ plainContent t b m → ContentIn true true n c
   octets-in at end b m x r t c f i w e =
       let j = subst (OctetsInside at end) w i in
-      rw e (omega (arith, j .1 .1))
+      rw e (plain-in true true t b m (λ q. absurd (differ q)) (λ q. absurd (differ q)) (λ q. omega (arith, j .1 .1)))
 
-  pub set-in : (x : ℕ) (t u : Step) (g : NumberSet) (r : RootOfTrust) → StepSlots t g → t ≡ Step.Past x → r ≡ emptyRoot → PlainIn n (record { step = u; value = 0; size = 0; set = g; root = r })
+  pub set-in : (x : ℕ) (t u : Step) (g : NumberSet) (r : RootOfTrust) → StepSlots t g → t ≡ Step.Past x → r ≡ emptyRoot → ContentIn false false n (record { step = u; value = 0; size = 0; set = g; root = r })
   set-in x t u g r i w e =
-      let j : SetInSlots g = subst (λ (y : Step). StepSlots y g) w i in
-      rw e (j, (omega arith, omega arith))
+      let j : SetInSlots g × SpareClear g = subst (λ (y : Step). StepSlots y g) w i in
+      rw e (record { set = j .0; spare = j .1; root = (omega arith, omega arith); hash = λ q. refl; noValue = λ q. refl; noSize = λ q. refl; octet = λ q. omega arith })
 
-  pub root-in : (at end x : ℕ) (h : Bool) (r : roots.Root) (t : RootOfTrust) (u : Step) (g : NumberSet) → end ≤ n → RootInside at end h r → r ≡ roots.Root.Is t x → g ≡ emptySet → PlainIn n (record { step = u; value = 0; size = 0; set = g; root = t })
+  pub root-in : (at end x : ℕ) (h : Bool) (r : roots.Root) (t : RootOfTrust) (u : Step) (g : NumberSet) → end ≤ n → RootInside at end h r → r ≡ roots.Root.Is t x → g ≡ emptySet → ContentIn false false n (record { step = u; value = 0; size = 0; set = g; root = t })
   root-in at end x h r t u g f i w e =
       let j = subst (RootInside at end h) w i in
-      rw e ((omega arith, refl), (omega (arith, j .1 .1 .0 .0), omega (arith, j .1 .1 .0 .1)))
+      rw e (record { set = (omega arith, refl); spare = empty-spare; root = (omega (arith, j .1 .1 .0 .0), omega (arith, j .1 .1 .0 .1)); hash = hash-clear h t (j .1 .1 .1); noValue = λ q. refl; noSize = λ q. refl; octet = λ q. omega arith })
 
-  isOctets : table.Kind → Bool
-  isOctets table.set = false
-  isOctets table.number32 = false
-  isOctets table.number64 = false
-  isOctets table.null = false
-  isOctets table.octets = true
-  isOctets table.root = false
-
-  other : (d : table.Kind) → T (not (isOctets d)) → d ≡ table.octets → ⊥
-  unfolding isOctets
-  other d t e = subst (λ (q : table.Kind). T (not (isOctets q))) e t
-
+  -- by the kind, which says whether there is a value or a size
   module _ (c : ContentRead) (k : Kind) where
-    pub in-number32 : k ≡ Kind.Number32 → PlainIn n c → ContentIn (ofKind k) n c
-    unfolding isOctets
-    in-number32 w p = (p, rw w (λ e. absurd (other table.number32 tt e)))
+    pub in-number32 : k ≡ Kind.Number32 → ContentIn true false n c → ContentKept (ofKind k) n c
+    in-number32 w p = rw w p
 
-    pub in-number64 : k ≡ Kind.Number64 → PlainIn n c → ContentIn (ofKind k) n c
-    unfolding isOctets
-    in-number64 w p = (p, rw w (λ e. absurd (other table.number64 tt e)))
+    pub in-number64 : k ≡ Kind.Number64 → ContentIn true false n c → ContentKept (ofKind k) n c
+    in-number64 w p = rw w p
 
-    pub in-null : k ≡ Kind.Null → PlainIn n c → ContentIn (ofKind k) n c
-    unfolding isOctets
-    in-null w p = (p, rw w (λ e. absurd (other table.null tt e)))
+    pub in-null : k ≡ Kind.Null → ContentIn false false n c → ContentKept (ofKind k) n c
+    in-null w p = rw w p
 
-    pub in-octets : PlainIn n c → c .value + c .size ≤ n → ContentIn (ofKind k) n c
-    in-octets p h = (p, λ e. h)
+    pub in-octets : k ≡ Kind.Octets → ContentIn true true n c → ContentKept (ofKind k) n c
+    in-octets w p = rw w p
 
-    pub in-set : k ≡ Kind.Set → PlainIn n c → ContentIn (ofKind k) n c
-    unfolding isOctets
-    in-set w p = (p, rw w (λ e. absurd (other table.set tt e)))
+    pub in-set : k ≡ Kind.Set → ContentIn false false n c → ContentKept (ofKind k) n c
+    in-set w p = rw w p
 
-    pub in-root : k ≡ Kind.Root → PlainIn n c → ContentIn (ofKind k) n c
-    unfolding isOctets
-    in-root w p = (p, rw w (λ e. absurd (other table.root tt e)))
+    pub in-root : k ≡ Kind.Root → ContentIn false false n c → ContentKept (ofKind k) n c
+    in-root w p = rw w p
 
 -- ---- one list
 
@@ -119,37 +131,85 @@ unfolding pick
 either P true x y p q = p
 either P false x y p q = q
 
+by-eq {ℓ} : {X : Type ℓ} (a b : ℕ) → (a ≡ b → X) → ((a ≡ b → ⊥) → X) → X
+by-eq a b f g = by-le a b (λ p. by-le b a (λ q. f (omega arith)) (λ q. g (λ e. absurd (omega arith)))) (λ p. g (λ e. absurd (omega arith)))
+
+-- of a list with a row more: that row is there, and any other as it was
+module _ (l : FieldList) (row : ℕ) (c : ContentRead) (z : Sized l) (h : row < 42) where
+  stored-present : presentAt (withField l row c) row ≡ true
+  stored-present = getD-set-same (l .present) row true false (omega (arith, z .present))
+
+  other-present : (k : ℕ) → (k ≡ row → ⊥) → presentAt (withField l row c) k ≡ presentAt l k
+  other-present k ne = getD-set-other (l .present) row k true false ne
+
+  -- what has row k for its own: what was stored there, else as it was
+  stored-own : {A : Type 0} (P : Bool → A → Type 0) (k : ℕ) (x y : A) → P true x → P (presentAt l k) y → P (presentAt (withField l row c) k) (pick (eqb row k) x y)
+  unfolding pick
+  stored-own P k x y p q =
+      by-eq row k
+      (λ e. rw (eq-eqb row k e, ← e, stored-present) p)
+      (λ ne. rw (ne-eqb row k ne, other-present k (λ u. ne (sym u))) q)
+
+  -- a word of row k
+  stored-word : (uses : table.Kind → Bool) (words : List ℕ) (w k : ℕ) → length words ≡ 42 → k < 42 → (uses (rowAt row .kind) ≡ false → w ≡ 0) → ((presentAt l k && uses (rowAt k .kind)) ≡ false → getD words k 0 ≡ 0)
+      → (presentAt (withField l row c) k && uses (rowAt k .kind)) ≡ false → getD (set words row w) k 0 ≡ 0
+  stored-word uses words w k m b new old e =
+      by-eq k row
+      (λ q. rw (q, getD-set-same words row w 0 (omega (arith, m))) (new (rw (q, stored-present) at e)))
+      (λ ne. rw (getD-set-other words row k w 0 ne) (old (rw (other-present k ne) at e)))
+
 module _ (n : ℕ) where
   pub empty-in : ListIn n emptyList
   empty-in = record {
+    sized = empty-sized;
     sets = record { purpose = (omega arith, refl); digest = (omega arith, refl); padding = (omega arith, refl); mgf = (omega arith, refl) };
     root = (omega arith, omega arith);
     octet = λ k h e. rw (getD-replicate {A = ℕ} 42 k 0 0 h) (omega arith);
+    clear = record {
+      value = λ k h e. getD-replicate {A = ℕ} 42 k 0 0 h;
+      size = λ k h e. getD-replicate {A = ℕ} 42 k 0 0 h;
+      purpose = record { spare = empty-spare; absent = λ e. refl };
+      digest = record { spare = empty-spare; absent = λ e. refl };
+      padding = record { spare = empty-spare; absent = λ e. refl };
+      mgf = record { spare = empty-spare; absent = λ e. refl };
+      root = record { hash = λ e. refl; absent = λ e. refl };
+    };
   }
 
   pub list-empty-in : (l : FieldList) → l ≡ emptyList → ListIn n l
   list-empty-in l e = rw e empty-in
 
-  pub stored-in : (l : FieldList) (row : ℕ) (c : ContentRead) → Sized l → row < 42 → ListIn n l → ContentIn (rowAt row .kind) n c → ListIn n (withField l row c)
-  stored-in l row c z h i j = record {
-    sets = record {
-      purpose = either SetInSlots (eqb row 0) (c .set) (l .purpose) (j .0 .0) (i .sets .purpose);
-      digest = either SetInSlots (eqb row 3) (c .set) (l .digest) (j .0 .0) (i .sets .digest);
-      padding = either SetInSlots (eqb row 4) (c .set) (l .padding) (j .0 .0) (i .sets .padding);
-      mgf = either SetInSlots (eqb row 7) (c .set) (l .mgf) (j .0 .0) (i .sets .mgf);
-    };
-    root = either (PartsIn n) (eqb row 26) (c .root) (l .root) (j .0 .1) (i .root);
-    octet = λ k b e. octet k b e;
-  }
-    where
-      moved : (k : ℕ) → k < 42 → (k ≡ row → ⊥) → rowAt k .kind ≡ table.octets → getD (set (l .values) row (c .value)) k 0 + getD (set (l .sizes) row (c .size)) k 0 ≤ n
-      moved k b ne e = rw (getD-set-other (l .values) row k (c .value) 0 ne, getD-set-other (l .sizes) row k (c .size) 0 ne) (i .octet k b e)
+  module _ (l : FieldList) (row : ℕ) (c : ContentRead) (h : row < 42) (i : ListIn n l) (j : ContentKept (rowAt row .kind) n c) where
+    stored-octet : (k : ℕ) → k < 42 → rowAt k .kind ≡ table.octets → getD (set (l .values) row (c .value)) k 0 + getD (set (l .sizes) row (c .size)) k 0 ≤ n
+    stored-octet k b e =
+        by-eq k row
+        (λ q. rw (q, getD-set-same (l .values) row (c .value) 0 (omega (arith, i .sized .values)), getD-set-same (l .sizes) row (c .size) 0 (omega (arith, i .sized .sizes))) (j .octet (rw (← q, e) refl)))
+        (λ ne. rw (getD-set-other (l .values) row k (c .value) 0 ne, getD-set-other (l .sizes) row k (c .size) 0 ne) (i .octet k b e))
 
-      here : (k : ℕ) → k ≡ row → rowAt k .kind ≡ table.octets → getD (set (l .values) row (c .value)) k 0 + getD (set (l .sizes) row (c .size)) k 0 ≤ n
-      here k q e = rw (q, getD-set-same (l .values) row (c .value) 0 (omega (arith, z .values)), getD-set-same (l .sizes) row (c .size) 0 (omega (arith, z .sizes))) (j .1 (rw q at e))
+    own-set : (k : ℕ) (g : NumberSet) → SetClear (presentAt l k) g → SetClear (presentAt (withField l row c) k) (pick (eqb row k) (c .set) g)
+    own-set k g d = stored-own l row c (i .sized) h SetClear k (c .set) g (record { spare = j .spare; absent = λ q. absurd (differ q) }) d
 
-      octet : (k : ℕ) → k < 42 → rowAt k .kind ≡ table.octets → getD (set (l .values) row (c .value)) k 0 + getD (set (l .sizes) row (c .size)) k 0 ≤ n
-      octet k b e = by-le row k (λ p. by-le k row (λ q. here k (omega arith) e) (λ q. moved k b (λ u. absurd (omega arith)) e)) (λ p. moved k b (λ u. absurd (omega arith)) e)
+    pub stored-in : ListIn n (withField l row c)
+    stored-in = record {
+      sized = stored-sized l row c (i .sized) h;
+      sets = record {
+        purpose = either SetInSlots (eqb row 0) (c .set) (l .purpose) (j .set) (i .sets .purpose);
+        digest = either SetInSlots (eqb row 3) (c .set) (l .digest) (j .set) (i .sets .digest);
+        padding = either SetInSlots (eqb row 4) (c .set) (l .padding) (j .set) (i .sets .padding);
+        mgf = either SetInSlots (eqb row 7) (c .set) (l .mgf) (j .set) (i .sets .mgf);
+      };
+      root = either (PartsIn n) (eqb row 26) (c .root) (l .root) (j .root) (i .root);
+      octet = stored-octet;
+      clear = record {
+        value = λ k b e. stored-word l row c (i .sized) h usesValue (l .values) (c .value) k (i .sized .values) b (j .noValue) (i .clear .value k b) e;
+        size = λ k b e. stored-word l row c (i .sized) h usesSize (l .sizes) (c .size) k (i .sized .sizes) b (j .noSize) (i .clear .size k b) e;
+        purpose = own-set 0 (l .purpose) (i .clear .purpose);
+        digest = own-set 3 (l .digest) (i .clear .digest);
+        padding = own-set 4 (l .padding) (i .clear .padding);
+        mgf = own-set 7 (l .mgf) (i .clear .mgf);
+        root = stored-own l row c (i .sized) h RootClear 26 (c .root) (l .root) (record { hash = j .hash; absent = λ q. absurd (differ q) }) (i .clear .root);
+      };
+    }
 
   part-inside : (p : Part) → p .start + p .len ≤ n → T (partInside p n)
   part-inside p h = le→leb (p .start + p .len) n h
@@ -204,6 +264,14 @@ module _ (n : ℕ) where
       (and-both (listInside (r .software) n) _ (list-inside (r .software) (i .software)) (list-inside (r .hardware) (i .hardware))))
 
 -- what is accepted is sound
-pub accepted-sound : (s : List ℕ) → ((k : ℕ) → Fits w8 (getD s k 0)) → (o : Outcome) (r : Record) → RecordIn (length s) r → ofReading s o r ≡ read s → AcceptedSound (length s) o r
-accepted-sound s f (Outcome.Accepted k) r i e = (content-shaped r s (i .software .sets) (i .hardware .sets) (read-sound s (contentOf r s) k (octets-all s f) (sym e) .0), parts-inside (length s) r i)
+pub accepted-sound : (s : List ℕ) → ((k : ℕ) → Fits w8 (getD s k 0)) → (o : Outcome) (r : Record) → RecordIn (length s) r → ofReading o r ≡ readPlaces s → AcceptedSound (length s) o r
+accepted-sound s f (Outcome.Accepted k) r i e =
+    (content-shaped r (octetsAt s) (i .software .sets) (i .hardware .sets) (read-sound s (contentOf r s) k (octets-all s f) (places-read r s k (octets-all s f) (sym e)) .0), parts-inside (length s) r i)
 accepted-sound s f (Outcome.Refused k p) r i e = tt
+
+-- and nothing in it is open
+pub kept-made : (n : ℕ) (r : Record) → RecordIn n r → recordMade (placesOf r) ≡ r
+kept-made n r i = record-made r (i .software .sized) (i .software .sets) (i .software .clear) (i .hardware .sized) (i .hardware .sets) (i .hardware .clear)
+
+pub refused-made : (k p : ℕ) (r : Reading) → r ≡ refusedReading k p → recordMade (placesOf (r .said)) ≡ r .said
+refused-made k p r e = kept-made 0 (r .said) (refused-in 0 k p r e)

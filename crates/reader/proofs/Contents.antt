@@ -14,16 +14,16 @@ use Rattle.codec.specs.Element.{exactly, under}
 use Rattle.schema.specs.Table as table
 use Rattle.schema.specs.Table.{top32, top64}
 use Rattle.schema.specs.Rows.{ofKind}
-use Rattle.schema.specs.Content.{num, nul, oct, nums, trust}
+use Rattle.schema.specs.Content.{num, nul, oct, nums, trust, Place, placeAt}
 use Rattle.schema.specs.Decode as decode
 use Rattle.schema.specs.declared.Kind.{Kind}
-use Rattle.schema.specs.Decode.{readInteger, readOctets, readNull, readSet, readRoot, contentOf}
-use Rattle.records.specs.Content.{octetsAt, membersOf}
+use Rattle.schema.specs.Decode.{readInteger, readOctets, readNull, readSet, readRoot, readValue, asPlace}
+use Rattle.records.specs.Content.{membersOf}
 use Rattle.records.specs.declared.NumberSet.{NumberSet}
 use Rattle.records.specs.declared.RootOfTrust.{RootOfTrust}
 use Rattle.reader.specs.Leaf.{readNumber, ofNumber, ofNull, ofOctets, NumberInside, OctetsInside}
 use Rattle.reader.specs.Set.{ofSet, StepInside}
-use Rattle.reader.specs.Empty.{emptySet, emptyRoot}
+use Rattle.records.specs.Empty.{emptySet, emptyRoot}
 use Rattle.reader.specs.Root.{Trust, trustOf, ofRoot, RootInside}
 use Rattle.reader.specs.Content.{ofStepped, endStep, plainContent, contentValue}
 use Rattle.reader.specs.declared.leaf.Number.{Number}
@@ -61,16 +61,16 @@ module _ (s : List ℕ) (at end : ℕ) (fit : end ≤ length s) (c : ContentRead
     pub null-content-is : (n x : ℕ) (t : Step) → NumberInside at end r → r ≡ Number.Is n x → t ≡ endStep x end → c ≡ plainContent t 0 0 → ofStepped (c .step) tt ≡ exactly 9 readNull at (slice at end s)
     null-content-is n x t i w q u = rw (u, q) (exact-is readNull s at end fit tt x (sym (rw w at e)) (number-inside at end n x r i w .1))
 
-  module _ (r : Octets) (e : ofOctets s end r ≡ readOctets at (slice at end s)) where
+  module _ (r : Octets) (e : ofOctets s end r ≡ readOctets asPlace at (slice at end s)) where
     pub octets-content-no : (k p : ℕ) → r ≡ Octets.Refused k p → c ≡ plainContent (Step.Refused k p) 0 0
-        → ofStepped (c .step) (octetsAt s (c .value) (c .size)) ≡ exactly 9 readOctets at (slice at end s)
-    octets-content-no k p w q = rw q (sym (exact-no readOctets s at end fit k p (sym (rw w at e))))
+        → ofStepped (c .step) (placeAt (c .value) (c .size)) ≡ exactly 9 (readOctets asPlace) at (slice at end s)
+    octets-content-no k p w q = rw q (sym (exact-no (readOctets asPlace) s at end fit k p (sym (rw w at e))))
 
     pub octets-content-is : (b n x : ℕ) (t : Step) → OctetsInside at end r → r ≡ Octets.Is b n x → t ≡ endStep x end → c ≡ plainContent t b n
-        → ofStepped (c .step) (octetsAt s (c .value) (c .size)) ≡ exactly 9 readOctets at (slice at end s)
+        → ofStepped (c .step) (placeAt (c .value) (c .size)) ≡ exactly 9 (readOctets asPlace) at (slice at end s)
     octets-content-is b n x t i w q u =
         let j = subst (OctetsInside at end) w i in
-        rw (u, q) (exact-is readOctets s at end fit (octetsAt s b n) x (sym (rw w at e)) (j .1 .0))
+        rw (u, q) (exact-is (readOctets asPlace) s at end fit (placeAt b n) x (sym (rw w at e)) (j .1 .0))
 
 module _ (s : List ℕ) (at end : ℕ) (fit : end ≤ length s) (t : Step) (g : NumberSet) (e : ofSet s end t g ≡ readSet at (slice at end s)) where
   pub set-content-no : (k p : ℕ) (c : ContentRead) → t ≡ Step.Refused k p → c ≡ plainContent (Step.Refused k p) 0 0 → ofStepped (c .step) (membersOf (c .set)) ≡ exactly 9 readSet at (slice at end s)
@@ -81,14 +81,14 @@ module _ (s : List ℕ) (at end : ℕ) (fit : end ≤ length s) (t : Step) (g : 
       let j : (at < x) × (x ≤ end) = subst (StepInside at end) w i in
       rw q (exact-is readSet s at end fit (membersOf g) x (sym (rw w at e)) (j .1))
 
-module _ (s : List ℕ) (at end : ℕ) (fit : end ≤ length s) (hash : Bool) (r : Root) (e : ofRoot s end r ≡ readRoot hash at (slice at end s)) where
-  pub root-content-no : (k p : ℕ) (c : ContentRead) → r ≡ Root.Refused k p → c ≡ plainContent (Step.Refused k p) 0 0 → ofStepped (c .step) (trustOf s (c .root)) ≡ exactly 9 (readRoot hash) at (slice at end s)
-  root-content-no k p c w q = rw q (sym (exact-no (readRoot hash) s at end fit k p (sym (rw w at e))))
+module _ (s : List ℕ) (at end : ℕ) (fit : end ≤ length s) (hash : Bool) (r : Root) (e : ofRoot s end r ≡ readRoot asPlace hash at (slice at end s)) where
+  pub root-content-no : (k p : ℕ) (c : ContentRead) → r ≡ Root.Refused k p → c ≡ plainContent (Step.Refused k p) 0 0 → ofStepped (c .step) (trustOf (c .root)) ≡ exactly 9 (readRoot asPlace hash) at (slice at end s)
+  root-content-no k p c w q = rw q (sym (exact-no (readRoot asPlace hash) s at end fit k p (sym (rw w at e))))
 
-  pub root-content-is : (t : RootOfTrust) (x : ℕ) (u : Step) → RootInside at end hash r → r ≡ Root.Is t x → u ≡ endStep x end → ofStepped u (trustOf s t) ≡ exactly 9 (readRoot hash) at (slice at end s)
+  pub root-content-is : (t : RootOfTrust) (x : ℕ) (u : Step) → RootInside at end hash r → r ≡ Root.Is t x → u ≡ endStep x end → ofStepped u (trustOf t) ≡ exactly 9 (readRoot asPlace hash) at (slice at end s)
   root-content-is t x u i w q =
       let j = subst (RootInside at end hash) w i in
-      rw q (exact-is (readRoot hash) s at end fit (trustOf s t) x (sym (rw w at e)) (j .1 .0))
+      rw q (exact-is (readRoot asPlace hash) s at end fit (trustOf t) x (sym (rw w at e)) (j .1 .0))
 
 -- ---- by the kind
 
@@ -99,31 +99,31 @@ module _ (s : List ℕ) (at end : ℕ) (c : ContentRead) where
   stepped f (Step.Refused k p) a M e = rw (← e) refl
 
   pub as-number32 : (k : Kind) (hash : Bool) → k ≡ Kind.Number32 → ofStepped (c .step) (c .value) ≡ exactly 9 (readNumber 2 top32) at (slice at end s)
-      → (v p : ℕ) → hash ≡ table.hashed v → ofStepped (c .step) (contentValue s (ofKind k) c) ≡ contentOf v (ofKind k) p at (slice at end s)
-  unfolding contentValue contentOf under readInteger readNumber
+      → (v p : ℕ) → hash ≡ table.hashed v → ofStepped (c .step) (contentValue (ofKind k) c) ≡ readValue asPlace v (ofKind k) p at (slice at end s)
+  unfolding contentValue readValue under readInteger readNumber
   as-number32 k hash q e v p h = rw q (stepped num (c .step) (c .value) _ e)
 
   pub as-number64 : (k : Kind) (hash : Bool) → k ≡ Kind.Number64 → ofStepped (c .step) (c .value) ≡ exactly 9 (readNumber 2 top64) at (slice at end s)
-      → (v p : ℕ) → hash ≡ table.hashed v → ofStepped (c .step) (contentValue s (ofKind k) c) ≡ contentOf v (ofKind k) p at (slice at end s)
-  unfolding contentValue contentOf under readInteger readNumber
+      → (v p : ℕ) → hash ≡ table.hashed v → ofStepped (c .step) (contentValue (ofKind k) c) ≡ readValue asPlace v (ofKind k) p at (slice at end s)
+  unfolding contentValue readValue under readInteger readNumber
   as-number64 k hash q e v p h = rw q (stepped num (c .step) (c .value) _ e)
 
   pub as-null : (k : Kind) (hash : Bool) → k ≡ Kind.Null → ofStepped (c .step) tt ≡ exactly 9 readNull at (slice at end s)
-      → (v p : ℕ) → hash ≡ table.hashed v → ofStepped (c .step) (contentValue s (ofKind k) c) ≡ contentOf v (ofKind k) p at (slice at end s)
-  unfolding contentValue contentOf under
+      → (v p : ℕ) → hash ≡ table.hashed v → ofStepped (c .step) (contentValue (ofKind k) c) ≡ readValue asPlace v (ofKind k) p at (slice at end s)
+  unfolding contentValue readValue under
   as-null k hash q e v p h = rw q (stepped (λ (u : Unit {0}). nul) (c .step) tt _ e)
 
-  pub as-octets : (k : Kind) (hash : Bool) → k ≡ Kind.Octets → ofStepped (c .step) (octetsAt s (c .value) (c .size)) ≡ exactly 9 readOctets at (slice at end s)
-      → (v p : ℕ) → hash ≡ table.hashed v → ofStepped (c .step) (contentValue s (ofKind k) c) ≡ contentOf v (ofKind k) p at (slice at end s)
-  unfolding contentValue contentOf under
-  as-octets k hash q e v p h = rw q (stepped oct (c .step) (octetsAt s (c .value) (c .size)) _ e)
+  pub as-octets : (k : Kind) (hash : Bool) → k ≡ Kind.Octets → ofStepped (c .step) (placeAt (c .value) (c .size)) ≡ exactly 9 (readOctets asPlace) at (slice at end s)
+      → (v p : ℕ) → hash ≡ table.hashed v → ofStepped (c .step) (contentValue (ofKind k) c) ≡ readValue asPlace v (ofKind k) p at (slice at end s)
+  unfolding contentValue readValue under
+  as-octets k hash q e v p h = rw q (stepped oct (c .step) (placeAt (c .value) (c .size)) _ e)
 
   pub as-set : (k : Kind) (hash : Bool) → k ≡ Kind.Set → ofStepped (c .step) (membersOf (c .set)) ≡ exactly 9 readSet at (slice at end s)
-      → (v p : ℕ) → hash ≡ table.hashed v → ofStepped (c .step) (contentValue s (ofKind k) c) ≡ contentOf v (ofKind k) p at (slice at end s)
-  unfolding contentValue contentOf under
+      → (v p : ℕ) → hash ≡ table.hashed v → ofStepped (c .step) (contentValue (ofKind k) c) ≡ readValue asPlace v (ofKind k) p at (slice at end s)
+  unfolding contentValue readValue under
   as-set k hash q e v p h = rw q (stepped nums (c .step) (membersOf (c .set)) _ e)
 
-  pub as-root : (k : Kind) (hash : Bool) → k ≡ Kind.Root → ofStepped (c .step) (trustOf s (c .root)) ≡ exactly 9 (readRoot hash) at (slice at end s)
-      → (v p : ℕ) → hash ≡ table.hashed v → ofStepped (c .step) (contentValue s (ofKind k) c) ≡ contentOf v (ofKind k) p at (slice at end s)
-  unfolding contentValue contentOf under
-  as-root k hash q e v p h = rw (q, ← h) (stepped (λ (t : Trust). trust (decode.rootOf t)) (c .step) (trustOf s (c .root)) _ e)
+  pub as-root : (k : Kind) (hash : Bool) → k ≡ Kind.Root → ofStepped (c .step) (trustOf (c .root)) ≡ exactly 9 (readRoot asPlace hash) at (slice at end s)
+      → (v p : ℕ) → hash ≡ table.hashed v → ofStepped (c .step) (contentValue (ofKind k) c) ≡ readValue asPlace v (ofKind k) p at (slice at end s)
+  unfolding contentValue readValue under
+  as-root k hash q e v p h = rw (q, ← h) (stepped (λ (t : Trust). trust (decode.rootFrom t)) (c .step) (trustOf (c .root)) _ e)

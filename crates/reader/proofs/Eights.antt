@@ -7,9 +7,9 @@ use lib.ListN.{length}
 use lib.Seq.{slice}
 use Rattle.answer.specs.Answer.{Answer, got, refused, bind}
 use Rattle.codec.specs.Octets.{Taken, taken}
-use Rattle.schema.specs.Content.{Content}
-use Rattle.schema.specs.Decode.{readList, readEight, eightOf}
-use Rattle.records.specs.Content.{fieldsOf, contentOf}
+use Rattle.schema.specs.Content.{Places, Place, placeAt}
+use Rattle.schema.specs.Decode.{readList, readEight, eightFrom, asPlace}
+use Rattle.records.specs.Content.{fieldsOf, placesOf}
 use Rattle.records.specs.declared.Record.{Record}
 use Rattle.records.specs.declared.Security.{Security}
 use Rattle.records.specs.declared.Part.{Part}
@@ -17,7 +17,7 @@ use Rattle.records.specs.declared.FieldList.{FieldList}
 use Rattle.reader.specs.Set.{StepInside}
 use Rattle.reader.specs.Head.{readHead, ofHead, HeadInside, listsAfter}
 use Rattle.reader.specs.Lists.{ofList}
-use Rattle.reader.specs.Empty.{emptyList, emptyRecord}
+use Rattle.records.specs.Empty.{emptyList, emptyRecord}
 use Rattle.reader.specs.Eight.{refusedEight, readContent, ofEight}
 use Rattle.reader.specs.declared.head.Head.{Head}
 use Rattle.reader.specs.declared.set.Step.{Step}
@@ -36,18 +36,18 @@ module _ (s : List ℕ) (at end : ℕ) (h : Head) (e : ofHead s end h ≡ readHe
   unfolding readContent bind
   eight-no k p r w q = rw (q, eight-split, ← e, w) refl
 
-  module _ (a m : Security) (c u : Part) (x : ℕ) (w : h ≡ Head.Is a m c u x) (t : Step) (l : FieldList) (e₁ : ofList s end t l ≡ readList (a .version) x (slice x end s)) where
+  module _ (a m : Security) (c u : Part) (x : ℕ) (w : h ≡ Head.Is a m c u x) (t : Step) (l : FieldList) (e₁ : ofList s end t l ≡ readList asPlace (a .version) x (slice x end s)) where
     pub eight-no-software : (k p : ℕ) (r : EightRead) → t ≡ Step.Refused k p → r ≡ refusedEight k p → ofEight s end (r .step) (r .said) ≡ readContent at (slice at end s)
     unfolding readContent bind
     eight-no-software k p r z q = rw (q, eight-split, ← e, w, ← e₁, z) refl
 
-    module _ (y : ℕ) (z : t ≡ Step.Past y) (t₂ : Step) (l₂ : FieldList) (e₂ : ofList s end t₂ l₂ ≡ readList (a .version) y (slice y end s)) where
+    module _ (y : ℕ) (z : t ≡ Step.Past y) (t₂ : Step) (l₂ : FieldList) (e₂ : ofList s end t₂ l₂ ≡ readList asPlace (a .version) y (slice y end s)) where
       pub eight-no-hardware : (k p : ℕ) (r : EightRead) → t₂ ≡ Step.Refused k p → r ≡ refusedEight k p → ofEight s end (r .step) (r .said) ≡ readContent at (slice at end s)
       unfolding readContent bind
       eight-no-hardware k p r z₂ q = rw (q, eight-split, ← e, w, ← e₁, z, ← e₂, z₂) refl
 
       pub eight-is : (b : ℕ) → t₂ ≡ Step.Past b
-          → got (taken (contentOf (record { attestation = a; keymint = m; challenge = c; unique = u; software = l; hardware = l₂ }) s) b (slice b end s)) ≡ readContent at (slice at end s)
+          → got (taken (placesOf (record { attestation = a; keymint = m; challenge = c; unique = u; software = l; hardware = l₂ })) b (slice b end s)) ≡ readContent at (slice at end s)
       unfolding readContent bind
       eight-is b z₂ = rw (eight-split, ← e, w, ← e₁, z, ← e₂, z₂) refl
 

@@ -14,8 +14,8 @@ use Rattle.codec.specs.Octets.{Taken, taken}
 use Rattle.codec.specs.Header.{identifier}
 use Rattle.codec.specs.Element.{element}
 use Rattle.schema.specs.Table.{Row, row, null, rows, rowAt, indexOf, find, heldIn}
-use Rattle.schema.specs.Content.{Value, Field, field}
-use Rattle.schema.specs.Decode.{contentOf, rowContent, fieldContent, readField}
+use Rattle.schema.specs.Content.{ValueWith, FieldWith, field, Place, placeAt}
+use Rattle.schema.specs.Decode.{readValue, rowContent, fieldContent, readField, asPlace}
 use Rattle.schema.specs.Rows.{ofRow}
 use Rattle.schema.specs.declared.Row as code
 use Rattle.schema.proofs.Table.{find-place, find-none}
@@ -29,25 +29,25 @@ unfolding rows
 rows-length = refl
 
 module _ (s : List ℕ) (at end v low : ℕ) (r : Element) (e : ofElement s end r ≡ opened at (slice at end s)) where
-  pub field-no : (k p : ℕ) → r ≡ Element.Refused k p → readField v low at (slice at end s) ≡ refused k p
+  pub field-no : (k p : ℕ) → r ≡ Element.Refused k p → readField asPlace v low at (slice at end s) ≡ refused k p
   unfolding readField bind
   field-no k p w = rw (element-open, ← e, w) refl
 
   module _ (f n b x : ℕ) (w : r ≡ Element.Is f n b x) where
-    opens : readField v low at (slice at end s) ≡ bind (fieldContent v low (identifier f n) at b (slice b x s)) (λ a. got (taken a x (slice x end s)))
+    opens : readField asPlace v low at (slice at end s) ≡ bind (fieldContent asPlace v low (identifier f n) at b (slice b x s)) (λ a. got (taken a x (slice x end s)))
     unfolding readField bind contentAfter
     opens = rw (element-open, ← e, w) refl
 
-    pub field-form : (f ≡ 5 → ⊥) → readField v low at (slice at end s) ≡ refused 9 at
+    pub field-form : (f ≡ 5 → ⊥) → readField asPlace v low at (slice at end s) ≡ refused 9 at
     unfolding fieldContent guard bind
     field-form h = opens ∙ rw (ne-eqb f 5 h) refl
 
     module _ (h : f ≡ 5) where
-      tagged : readField v low at (slice at end s) ≡ bind (rowContent v low n (find rows n) at b (slice b x s)) (λ a. got (taken a x (slice x end s)))
+      tagged : readField asPlace v low at (slice at end s) ≡ bind (rowContent asPlace v low n (find rows n) at b (slice b x s)) (λ a. got (taken a x (slice x end s)))
       unfolding fieldContent guard
       tagged = opens ∙ rw (eq-eqb f 5 h) refl
 
-      pub field-unknown : (i : ℕ) → i ≡ indexOf rows n → 42 ≤ i → readField v low at (slice at end s) ≡ refused 11 at
+      pub field-unknown : (i : ℕ) → i ≡ indexOf rows n → 42 ≤ i → readField asPlace v low at (slice at end s) ≡ refused 11 at
       unfolding rowContent bind
       field-unknown i q l = tagged ∙ rw (find-none rows n (omega (arith, rows-length, q))) refl
 
@@ -58,15 +58,15 @@ module _ (s : List ℕ) (at end v low : ℕ) (r : Element) (e : ofElement s end 
         held : heldIn v (rowAt i) ≡ b₁
         held = ap (heldIn v) (sym qc) ∙ sym qb
 
-        pub field-version : b₁ ≡ false → readField v low at (slice at end s) ≡ refused 11 at
+        pub field-version : b₁ ≡ false → readField asPlace v low at (slice at end s) ≡ refused 11 at
         unfolding rowContent guard bind
         field-version z = tagged ∙ rw (place .0, held, z) refl
 
-        pub field-order : b₁ ≡ true → n < low → readField v low at (slice at end s) ≡ refused 12 at
+        pub field-order : b₁ ≡ true → n < low → readField asPlace v low at (slice at end s) ≡ refused 12 at
         unfolding rowContent guard bind
         field-order z o = tagged ∙ rw (place .0, held, z, lt-leb low n o) refl
 
-        joined : (M : Answer Value) → bind (bind M (λ y. got (field n y))) (λ a. got (taken a x (slice x end s))) ≡ bind M (λ y. got (taken (field n y) x (slice x end s)))
+        joined : (M : Answer (ValueWith Place)) → bind (bind M (λ y. got (field n y))) (λ a. got (taken a x (slice x end s))) ≡ bind M (λ y. got (taken (field n y) x (slice x end s)))
         unfolding bind
         joined (got y) = refl
         joined (refused k p) = refl
@@ -82,5 +82,5 @@ module _ (s : List ℕ) (at end v low : ℕ) (r : Element) (e : ofElement s end 
               body = k .0;
               stop = k .1 .0;
               inside = k .1 .1;
-              reads = tagged ∙ (rw (place .0, held, z, le-leb low n o) refl ∙ joined (contentOf v (rowAt i .kind) at b (slice b x s)));
+              reads = tagged ∙ (rw (place .0, held, z, le-leb low n o) refl ∙ joined (readValue asPlace v (rowAt i .kind) at b (slice b x s)));
             }

@@ -13,12 +13,12 @@ use Rattle.codec.specs.Octets.{Taken, taken}
 use Rattle.schema.specs.Table as table
 use Rattle.schema.specs.Table.{Kind, rows, rowAt}
 use Rattle.schema.specs.Rows.{ofKind, ofRow}
-use Rattle.schema.specs.Content.{Value, Field, field}
-use Rattle.schema.specs.Decode.{contentOf, readField}
+use Rattle.schema.specs.Content.{ValueWith, FieldWith, field, Place, placeAt}
+use Rattle.schema.specs.Decode.{readValue, readField, asPlace}
 use Rattle.schema.specs.declared.Row as code
 use Rattle.schema.proofs.Table.{above}
 use Rattle.reader.specs.Content.{ofStepped, plainContent, contentValue}
-use Rattle.reader.specs.Inside.{ContentIn}
+use Rattle.reader.specs.Inside.{ContentKept}
 use Rattle.reader.specs.Fields.{FieldAt, FieldOpened, ofField, FieldKept, FieldInside}
 use Rattle.reader.specs.declared.set.Step.{Step}
 use Rattle.reader.specs.declared.fields.FieldHead.{FieldHead}
@@ -35,7 +35,7 @@ module _ (s : List ℕ) (at end v low : ℕ) (r : FieldHead) (o : FieldOpened s 
   field-fits row n b x w h = let f : FieldAt s at end v low row n b x = subst (FieldOpened s at end v low) w o in omega (arith, f .inside)
 
   module _ (k q : ℕ) (c : ContentRead) (w : r ≡ FieldHead.Refused k q) (u : c ≡ plainContent (Step.Refused k q) 0 0) where
-    pub field-read-no : ofField s end (c .step) (record { row = 0; number = 0; stop = at; content = c }) ≡ readField v low at (slice at end s)
+    pub field-read-no : ofField s end (c .step) (record { row = 0; number = 0; stop = at; content = c }) ≡ readField asPlace v low at (slice at end s)
     field-read-no = rw u (sym (subst (FieldOpened s at end v low) w o))
 
     pub field-none-inside : FieldInside (length s) at end low (c .step) (record { row = 0; number = 0; stop = at; content = c })
@@ -48,20 +48,20 @@ module _ (s : List ℕ) (at end v low : ℕ) (r : FieldHead) (o : FieldOpened s 
     kind : ofKind (i .kind) ≡ rowAt row .kind
     kind = ap (λ (q : table.Row). q .kind) qi
 
-    module _ (hash : Bool) (qh : hash ≡ leb 3 v) (e : (v p : ℕ) → hash ≡ table.hashed v → ofStepped (c .step) (contentValue s (ofKind (i .kind)) c) ≡ contentOf v (ofKind (i .kind)) p b (slice b x s)) where
-      content : ofStepped (c .step) (contentValue s (rowAt row .kind) c) ≡ contentOf v (rowAt row .kind) at b (slice b x s)
+    module _ (hash : Bool) (qh : hash ≡ leb 3 v) (e : (v p : ℕ) → hash ≡ table.hashed v → ofStepped (c .step) (contentValue (ofKind (i .kind)) c) ≡ readValue asPlace v (ofKind (i .kind)) p b (slice b x s)) where
+      content : ofStepped (c .step) (contentValue (rowAt row .kind) c) ≡ readValue asPlace v (rowAt row .kind) at b (slice b x s)
       unfolding table.hashed
-      content = subst (λ (k : Kind). ofStepped (c .step) (contentValue s k c) ≡ contentOf v k at b (slice b x s)) kind (e v at qh)
+      content = subst (λ (k : Kind). ofStepped (c .step) (contentValue k c) ≡ readValue asPlace v k at b (slice b x s)) kind (e v at qh)
 
-      stepped : (t : Step) → ofField s end t (record { row = row; number = n; stop = x; content = c }) ≡ bind (ofStepped t (contentValue s (rowAt row .kind) c)) (λ (y : Value). got (taken (field n y) x (slice x end s)))
+      stepped : (t : Step) → ofField s end t (record { row = row; number = n; stop = x; content = c }) ≡ bind (ofStepped t (contentValue (rowAt row .kind) c)) (λ (y : ValueWith Place). got (taken (field n y) x (slice x end s)))
       unfolding bind
       stepped (Step.Past y) = refl
       stepped (Step.Refused k p) = refl
 
-      pub field-read-is : ofField s end (c .step) (record { row = row; number = n; stop = x; content = c }) ≡ readField v low at (slice at end s)
+      pub field-read-is : ofField s end (c .step) (record { row = row; number = n; stop = x; content = c }) ≡ readField asPlace v low at (slice at end s)
       field-read-is = stepped (c .step) ∙ rw content (sym (f .reads))
 
-    pub field-inside : ContentIn (ofKind (i .kind)) (length s) c → FieldInside (length s) at end low (c .step) (record { row = row; number = n; stop = x; content = c })
+    pub field-inside : ContentKept (ofKind (i .kind)) (length s) c → FieldInside (length s) at end low (c .step) (record { row = row; number = n; stop = x; content = c })
     field-inside d = go (c .step)
       where
         go : (t : Step) → FieldInside (length s) at end low t (record { row = row; number = n; stop = x; content = c })
@@ -72,7 +72,7 @@ module _ (s : List ℕ) (at end v low : ℕ) (r : FieldHead) (o : FieldOpened s 
           above = f .above;
           onward = omega (arith, f .body, f .stop);
           inside = f .inside;
-          bounds = subst (λ (k : Kind). ContentIn k (length s) c) kind d;
+          bounds = subst (λ (k : Kind). ContentKept k (length s) c) kind d;
         }
         go (Step.Refused k p) = tt
 

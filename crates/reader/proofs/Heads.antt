@@ -13,8 +13,8 @@ use Rattle.codec.specs.Octets.{Taken, taken}
 use Rattle.codec.specs.Integer.{integerOf}
 use Rattle.codec.specs.Element.{both}
 use Rattle.schema.specs.Table.{knownVersion, levelTop, top32}
-use Rattle.schema.specs.Content.{Field}
-use Rattle.schema.specs.Decode.{readInteger, readEnumerated, readOctets, readList, readVersion, readEight}
+use Rattle.schema.specs.Content.{FieldWith, Place, placeAt}
+use Rattle.schema.specs.Decode.{readInteger, readEnumerated, readOctets, readList, readVersion, readEight, asPlace}
 use Rattle.records.specs.Content.{octetsAt}
 use Rattle.records.specs.declared.Part.{Part}
 use Rattle.records.specs.declared.Security.{Security}
@@ -147,17 +147,17 @@ abbrev part : ℕ → ℕ → Part
 part p z = record { start = p; len = z }
 
 module _ (s : List ℕ) (at end : ℕ) (r : Octets) where
-  module _ (e : ofOctets s end r ≡ readOctets at (slice at end s)) where
+  module _ (e : ofOctets s end r ≡ readOctets asPlace at (slice at end s)) where
     pub names-no : (k p : ℕ) → r ≡ Octets.Refused k p → refused k p ≡ readNames at (slice at end s)
     unfolding readNames both bind
     names-no k p w = rw (← e, w) refl
 
-    module _ (p z x : ℕ) (t : Octets) (w : r ≡ Octets.Is p z x) (q : ofOctets s end t ≡ readOctets x (slice x end s)) where
+    module _ (p z x : ℕ) (t : Octets) (w : r ≡ Octets.Is p z x) (q : ofOctets s end t ≡ readOctets asPlace x (slice x end s)) where
       pub names-one : (k o : ℕ) → t ≡ Octets.Refused k o → refused k o ≡ readNames at (slice at end s)
       unfolding readNames both bind
       names-one k o u = rw (← e, w, ← q, u) refl
 
-      pub names-is : (p₂ z₂ x₂ : ℕ) → t ≡ Octets.Is p₂ z₂ x₂ → got (taken (octetsAt s p z, octetsAt s p₂ z₂) x₂ (slice x₂ end s)) ≡ readNames at (slice at end s)
+      pub names-is : (p₂ z₂ x₂ : ℕ) → t ≡ Octets.Is p₂ z₂ x₂ → got (taken (placeAt p z, placeAt p₂ z₂) x₂ (slice x₂ end s)) ≡ readNames at (slice at end s)
       unfolding readNames both bind
       names-is p₂ z₂ x₂ u = rw (← e, w, ← q, u) refl
 
@@ -180,7 +180,7 @@ module _ (s : List ℕ) (at end v l : ℕ) (r : Secured) (e : ofSecured s end r 
     after-one k p u = rw (← e, w, ← q, u) refl
 
     pub after-is : (a b : Part) (y : ℕ) → t ≡ Names.Is a b y
-        → got (taken (heading (v, l) (g .version, g .level) (octetsAt s (a .start) (a .len), octetsAt s (b .start) (b .len))) y (slice y end s)) ≡ headAfter (v, l) at (slice at end s)
+        → got (taken (heading (v, l) (g .version, g .level) (placeAt (a .start) (a .len), placeAt (b .start) (b .len))) y (slice y end s)) ≡ headAfter (v, l) at (slice at end s)
     unfolding headAfter bind
     after-is a b y u = rw (← e, w, ← q, u) refl
 
@@ -250,22 +250,22 @@ module _ {A B C D : Type 0} (rd : ℕ → List ℕ → Answer (Taken A)) (rd′ 
       ∙ sym (both-then rd rd′ thirdAfter p bs))
 
 -- the eight from the third and from the fifth on
-abbrev fromNames : ℕ → ℕ → List ℕ → Answer (Taken (List ℕ × (List ℕ × (List Field × List Field))))
-fromNames v = both readOctets λ c. both readOctets λ u. both (readList v) λ s. readList v
+abbrev fromNames : ℕ → ℕ → List ℕ → Answer (Taken (Place × (Place × (List (FieldWith Place) × List (FieldWith Place)))))
+fromNames v = both (readOctets asPlace) λ c. both (readOctets asPlace) λ u. both (readList asPlace v) λ s. readList asPlace v
 
-abbrev fromKeymint : ℕ → ℕ → List ℕ → Answer (Taken (ℕ × (ℕ × (List ℕ × (List ℕ × (List Field × List Field))))))
+abbrev fromKeymint : ℕ → ℕ → List ℕ → Answer (Taken (ℕ × (ℕ × (Place × (Place × (List (FieldWith Place) × List (FieldWith Place)))))))
 fromKeymint v = both (readInteger top32) λ k. both (readEnumerated (levelTop v)) λ m. fromNames v
 
 module _ (a : ℕ × ℕ) where
-  lists-split : (k : ℕ × ℕ) (n : List ℕ × List ℕ) (p : ℕ) (bs : List ℕ)
-      → bind (both (readList (a .0)) (λ s. readList (a .0)) p bs) (λ c. got (taken (a .0, (a .1, (k .0, (k .1, (n .0, (n .1, c .val)))))) (c .next) (c .rest))) ≡ listsAfter (heading a k n) p bs
-  lists-split k n p bs = both-then (readList (a .0)) (λ s. readList (a .0)) _ p bs
+  lists-split : (k : ℕ × ℕ) (n : Place × Place) (p : ℕ) (bs : List ℕ)
+      → bind (both (readList asPlace (a .0)) (λ s. readList asPlace (a .0)) p bs) (λ c. got (taken (a .0, (a .1, (k .0, (k .1, (n .0, (n .1, c .val)))))) (c .next) (c .rest))) ≡ listsAfter (heading a k n) p bs
+  lists-split k n p bs = both-then (readList asPlace (a .0)) (λ s. readList asPlace (a .0)) _ p bs
 
   names-split : (k : ℕ × ℕ) (p : ℕ) (bs : List ℕ)
       → bind (fromNames (a .0) p bs) (λ c. got (taken (a .0, (a .1, (k .0, (k .1, c .val)))) (c .next) (c .rest))) ≡ bind (readNames p bs) λ n. listsAfter (heading a k (n .val)) (n .next) (n .rest)
   unfolding readNames
   names-split k p bs =
-      pairs readOctets (λ c. readOctets) (λ c u. both (readList (a .0)) λ s. readList (a .0)) _ p bs
+      pairs (readOctets asPlace) (λ c. readOctets asPlace) (λ c u. both (readList asPlace (a .0)) λ s. readList asPlace (a .0)) _ p bs
       ∙ bind-eq (readNames p bs) _ _ (λ n. lists-split k (n .val) (n .next) (n .rest))
 
   keymint-split : (p : ℕ) (bs : List ℕ)
@@ -276,10 +276,10 @@ module _ (a : ℕ × ℕ) where
       ∙ (bind-eq (readKeymint (a .0) p bs) _ _ (λ k. names-split (k .val) (k .next) (k .rest) ∙ sym (bind-then (readNames (k .next) (k .rest)) (λ n. taken (heading a (k .val) (n .val)) (n .next) (n .rest)) _))
       ∙ sym (bind-bind (readKeymint (a .0) p bs) _ _))
 
-pub eight-split : (p : ℕ) (bs : List ℕ) → readEight p bs ≡ bind (readHead p bs) λ h. listsAfter (h .val) (h .next) (h .rest)
+pub eight-split : (p : ℕ) (bs : List ℕ) → readEight asPlace p bs ≡ bind (readHead p bs) λ h. listsAfter (h .val) (h .next) (h .rest)
 unfolding readEight readAttestation readHead
 eight-split p bs =
-    sym (bind-same (readEight p bs))
+    sym (bind-same (readEight asPlace p bs))
     ∙ (pairs readVersion (λ v. readEnumerated (levelTop v)) (λ v l. fromKeymint v) (λ w. got w) p bs
     ∙ (bind-eq (readAttestation p bs) _ _ (λ a. keymint-split (a .val) (a .next) (a .rest))
     ∙ sym (bind-bind (readAttestation p bs) _ _)))

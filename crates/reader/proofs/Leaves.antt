@@ -11,20 +11,13 @@ use borrow.Author.Tests.{eq-eqb, ne-eqb}
 use Rattle.answer.specs.Answer.{Answer, got, refused, guard, bind}
 use Rattle.codec.specs.Octets.{Taken, taken}
 use Rattle.codec.specs.Integer.{integerOf}
-use Rattle.schema.specs.Decode.{readOctets, booleanOf, readBoolean, nullOf, readNull}
-use Rattle.records.specs.Content.{octetsAt}
+use Rattle.schema.specs.Decode.{readOctets, booleanOf, readBoolean, nullOf, readNull, asPlace}
+use Rattle.schema.specs.Content.{Place, placeAt}
 use Rattle.reader.specs.Element.{openedAs, ofTagged, TaggedInside}
 use Rattle.reader.specs.Leaf.{readNumber, ofValue}
 use Rattle.reader.specs.declared.element.Tagged.{Tagged}
 use Rattle.reader.specs.declared.leaf.Value.{Value}
 use Rattle.reader.proofs.Open.{leaf-no, leaf-is, tagged-inside}
-
--- a part of the bytes, as its octets from its start on
-pub part-octets : (s : List ℕ) (b x : ℕ) → b ≤ x → x ≤ length s → slice b x s ≡ octetsAt s b (x - b)
-part-octets s b x h l =
-    let e : b + (x - b) ≡ x = omega arith in
-    let t : take b s ++ take (x - b) (drop b s) ≡ take x s = sym (take-add b (x - b) s) ∙ rw e in
-    rw (← t) (drop-at (take b s) (take (x - b) (drop b s)) b (length-take-le b s (omega arith)))
 
 module _ (s : List ℕ) (at end : ℕ) where
   module _ (tag top : ℕ) (r : Tagged) (e : ofTagged s end r ≡ openedAs 0 tag at (slice at end s)) where
@@ -42,15 +35,15 @@ module _ (s : List ℕ) (at end : ℕ) where
     number-is b x n v w f q = sym (leaf-is _ at 0 tag s end r e b x w ∙ rw (← f at, q) refl)
 
   module _ (r : Tagged) (e : ofTagged s end r ≡ openedAs 0 4 at (slice at end s)) where
-    pub octets-no : (k p : ℕ) → r ≡ Tagged.Refused k p → refused k p ≡ readOctets at (slice at end s)
+    pub octets-no : (k p : ℕ) → r ≡ Tagged.Refused k p → refused k p ≡ readOctets asPlace at (slice at end s)
     unfolding readOctets
     octets-no k p w = sym (leaf-no _ at 0 4 s end r e k p w)
 
-    pub octets-is : (b x : ℕ) → end ≤ length s → TaggedInside at end r → r ≡ Tagged.Is b x → got (taken (octetsAt s b (x - b)) x (slice x end s)) ≡ readOctets at (slice at end s)
+    pub octets-is : (b x : ℕ) → end ≤ length s → TaggedInside at end r → r ≡ Tagged.Is b x → got (taken (placeAt b (x - b)) x (slice x end s)) ≡ readOctets asPlace at (slice at end s)
     unfolding readOctets bind
     octets-is b x fit i w =
         let j = tagged-inside at end b x r i w in
-        sym (leaf-is _ at 0 4 s end r e b x w ∙ rw (part-octets s b x (j .1 .0) (omega (arith, j .1 .1))) refl)
+        sym (leaf-is _ at 0 4 s end r e b x w ∙ rw (length-slice b x s (omega (arith, j .1 .1))) refl)
 
   module _ (r : Tagged) (e : ofTagged s end r ≡ openedAs 0 1 at (slice at end s)) where
     pub boolean-no : (k p : ℕ) → r ≡ Tagged.Refused k p → refused k p ≡ readBoolean at (slice at end s)

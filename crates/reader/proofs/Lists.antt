@@ -14,27 +14,22 @@ use Rattle.answer.specs.Answer.{Answer, got, refused, pick}
 use Rattle.answer.proofs.Logic.{and-left, and-right}
 use Rattle.schema.specs.Table as table
 use Rattle.schema.specs.Table.{Kind, number32, number64, null, octets, root, Row, row, rows, rowAt}
-use Rattle.schema.specs.Content.{Value, num, nul, oct, nums, trust, Field, field}
+use Rattle.schema.specs.Content.{ValueWith, num, nul, oct, nums, trust, FieldWith, field, Place, placeAt}
 use Rattle.schema.proofs.Table.{above}
 use Rattle.records.proofs.Placed.{by-set, by-root}
-use Rattle.records.specs.Content.{octetsAt, membersOf, rootOf, setAt, valueAt, fieldAt, upTo, fieldsOf}
+use Rattle.records.specs.Content.{membersOf, rootOf, setAt, valueAt, fieldAt, upTo, fieldsOf}
+use Rattle.records.specs.Clear.{Sized}
 use Rattle.records.specs.declared.FieldList.{FieldList}
 use Rattle.records.specs.declared.NumberSet.{NumberSet}
 use Rattle.records.specs.declared.RootOfTrust.{RootOfTrust}
-use Rattle.reader.specs.Empty.{emptySet, emptyRoot, emptyList}
+use Rattle.records.specs.Empty.{emptySet, emptyRoot, emptyList}
 use Rattle.reader.specs.Content.{contentValue}
 use Rattle.reader.specs.Lists.{withField}
 use Rattle.reader.specs.declared.content.ContentRead.{ContentRead}
 
--- the arrays of a list have their lengths
-pub record Sized (l : FieldList) : Type 0 where
-  pub present : length (l .present) ≡ 42
-  pub values : length (l .values) ≡ 42
-  pub sizes : length (l .sizes) ≡ 42
-
 -- ---- a stored field
 
-module _ (l : FieldList) (s : List ℕ) (r : ℕ) (c : ContentRead) (z : Sized l) (h : r < 42) where
+module _ (l : FieldList) (r : ℕ) (c : ContentRead) (z : Sized l) (h : r < 42) where
   same-set : rowAt r .kind ≡ table.set → setAt (withField l r c) (rowAt r .number) ≡ c .set
   unfolding rows pick
   same-set e = by-set r h e (λ q. rw q refl) (λ q. rw q refl) (λ q. rw q refl) (λ q. rw q refl)
@@ -43,7 +38,7 @@ module _ (l : FieldList) (s : List ℕ) (r : ℕ) (c : ContentRead) (z : Sized l
   unfolding pick
   same-root e = rw (by-root r h e) refl
 
-  same-value : (k : Kind) → rowAt r .kind ≡ k → valueAt (withField l r c) s (rowAt r .number) k r ≡ contentValue s k c
+  same-value : (k : Kind) → rowAt r .kind ≡ k → valueAt (withField l r c) placeAt (rowAt r .number) k r ≡ contentValue k c
   unfolding valueAt contentValue
   same-value number32 e = rw (getD-set-same (l .values) r (c .value) 0 (omega (arith, z .values))) refl
   same-value number64 e = rw (getD-set-same (l .values) r (c .value) 0 (omega (arith, z .values))) refl
@@ -52,7 +47,7 @@ module _ (l : FieldList) (s : List ℕ) (r : ℕ) (c : ContentRead) (z : Sized l
   same-value table.set e = rw (same-set e) refl
   same-value root e = rw (same-root e) refl
 
-  pub stored-same : fieldAt (withField l r c) s r ≡ field (rowAt r .number) (contentValue s (rowAt r .kind) c) ∷ []
+  pub stored-same : fieldAt (withField l r c) placeAt r ≡ field (rowAt r .number) (contentValue (rowAt r .kind) c) ∷ []
   unfolding fieldAt pick
   stored-same = rw (getD-set-same (l .present) r true false (omega (arith, z .present)), same-value (rowAt r .kind) refl) refl
 
@@ -70,7 +65,7 @@ module _ (l : FieldList) (s : List ℕ) (r : ℕ) (c : ContentRead) (z : Sized l
     unfolding pick
     other-root e = rw (ne-eqb r 26 (λ u. n (by-root k b e ∙ sym u))) refl
 
-    other-value : (j : Kind) → rowAt k .kind ≡ j → valueAt (withField l r c) s (rowAt k .number) j k ≡ valueAt l s (rowAt k .number) j k
+    other-value : (j : Kind) → rowAt k .kind ≡ j → valueAt (withField l r c) placeAt (rowAt k .number) j k ≡ valueAt l placeAt (rowAt k .number) j k
     unfolding valueAt
     other-value number32 e = rw (getD-set-other (l .values) r k (c .value) 0 n) refl
     other-value number64 e = rw (getD-set-other (l .values) r k (c .value) 0 n) refl
@@ -79,7 +74,7 @@ module _ (l : FieldList) (s : List ℕ) (r : ℕ) (c : ContentRead) (z : Sized l
     other-value table.set e = rw (other-set e) refl
     other-value root e = rw (other-root e) refl
 
-    pub stored-other : fieldAt (withField l r c) s k ≡ fieldAt l s k
+    pub stored-other : fieldAt (withField l r c) placeAt k ≡ fieldAt l placeAt k
     unfolding fieldAt
     stored-other = rw (getD-set-other (l .present) r k true false n, other-value (rowAt k .kind) refl) refl
 
@@ -92,21 +87,21 @@ module _ (l : FieldList) (s : List ℕ) (r : ℕ) (c : ContentRead) (z : Sized l
 
 -- ---- the fields of a list, row by row
 
-upTo-agree : (F G : ℕ → List Field) (n : ℕ) → ((k : ℕ) → k < n → F k ≡ G k) → upTo F n ≡ upTo G n
+upTo-agree : (F G : ℕ → List (FieldWith Place)) (n : ℕ) → ((k : ℕ) → k < n → F k ≡ G k) → upTo F n ≡ upTo G n
 unfolding upTo
 upTo-agree F G zero h = refl
 upTo-agree F G (suc n) h = rw (upTo-agree F G n (λ k p. h k (omega arith)), h n (omega arith))
 
-upTo-none : (F : ℕ → List Field) (m d : ℕ) → ((k : ℕ) → m ≤ k → k < m + d → F k ≡ []) → upTo F (m + d) ≡ upTo F m
+upTo-none : (F : ℕ → List (FieldWith Place)) (m d : ℕ) → ((k : ℕ) → m ≤ k → k < m + d → F k ≡ []) → upTo F (m + d) ≡ upTo F m
 unfolding upTo
 upTo-none F m zero h = rw add-zero
 upTo-none F m (suc d) h = rw (add-suc, h (m + d) (omega arith) (omega arith), append-nil) (upTo-none F m d (λ k p q. h k p (omega arith)))
 
-upTo-to : (F : ℕ → List Field) (m n : ℕ) → m ≤ n → ((k : ℕ) → m ≤ k → k < n → F k ≡ []) → upTo F n ≡ upTo F m
+upTo-to : (F : ℕ → List (FieldWith Place)) (m n : ℕ) → m ≤ n → ((k : ℕ) → m ≤ k → k < n → F k ≡ []) → upTo F n ≡ upTo F m
 upTo-to F m n p h = let e : m + (n - m) ≡ n = omega arith in subst (λ (x : ℕ). upTo F x ≡ upTo F m) e (upTo-none F m (n - m) (λ k a b. h k a (omega arith)))
 
 -- one row more, with none above it
-pub upTo-one : (F G : ℕ → List Field) (n r : ℕ) → r < n → ((k : ℕ) → k < n → (k ≡ r → ⊥) → G k ≡ F k) → ((k : ℕ) → r ≤ k → k < n → F k ≡ []) → upTo G n ≡ upTo F n ++ G r
+pub upTo-one : (F G : ℕ → List (FieldWith Place)) (n r : ℕ) → r < n → ((k : ℕ) → k < n → (k ≡ r → ⊥) → G k ≡ F k) → ((k : ℕ) → r ≤ k → k < n → F k ≡ []) → upTo G n ≡ upTo F n ++ G r
 unfolding upTo
 upTo-one F G n r h same none =
     let up : upTo G n ≡ upTo G (suc r) = upTo-to G (suc r) n h (λ k p q. same k q (omega arith) ∙ none k (omega arith) q) in
@@ -114,20 +109,20 @@ upTo-one F G n r h same none =
     let dn : upTo F n ≡ upTo F r = upTo-to F r n (omega arith) none in
     up ∙ step G r ∙ rw (lo, dn) refl
   where
-    step : (G : ℕ → List Field) (r : ℕ) → upTo G (suc r) ≡ upTo G r ++ G r
+    step : (G : ℕ → List (FieldWith Place)) (r : ℕ) → upTo G (suc r) ≡ upTo G r ++ G r
     step G r = refl
 
 -- ---- an empty list
 
-pub empty-none : (s : List ℕ) (k : ℕ) → k < 42 → fieldAt emptyList s k ≡ []
+pub empty-none : (k : ℕ) → k < 42 → fieldAt emptyList placeAt k ≡ []
 unfolding fieldAt pick
-empty-none s k h = rw (getD-replicate 42 k false false h) refl
+empty-none k h = rw (getD-replicate 42 k false false h) refl
 
-pub empty-fields : (s : List ℕ) → fieldsOf emptyList s ≡ []
+pub empty-fields : fieldsOf emptyList placeAt ≡ []
 unfolding upTo
-empty-fields s = upTo-to (fieldAt emptyList s) 0 42 (omega arith) (λ k p q. empty-none s k q) ∙ zero-rows (fieldAt emptyList s)
+empty-fields = upTo-to (fieldAt emptyList placeAt) 0 42 (omega arith) (λ k p q. empty-none k q) ∙ zero-rows (fieldAt emptyList placeAt)
   where
-    zero-rows : (F : ℕ → List Field) → upTo F 0 ≡ []
+    zero-rows : (F : ℕ → List (FieldWith Place)) → upTo F 0 ≡ []
     zero-rows F = refl
 
 pub empty-sized : Sized emptyList

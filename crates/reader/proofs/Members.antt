@@ -5,8 +5,8 @@ use Prim.Native.Nat.{ℕ, suc, _+_, _-_, _<_, _≤_}
 use native.Mathlib.Omega.{arith}
 use native.Mathlib.Numerals.{add-one}
 use lib.Dec.{ltb, leb, leb→le}
-use lib.ListN.{length, take, set, length-set, replicate}
-use lib.Seq.{slice, take-suc-set}
+use lib.ListN.{length, getD, take, set, length-set, replicate, getD-replicate}
+use lib.Seq.{slice, take-suc-set, getD-set-other}
 use borrow.Author.Tests.{lt-ltb, le-ltb, le-leb, lt-leb}
 use Rattle.answer.specs.Answer.{Answer, got, refused, guard, bind}
 use Rattle.answer.proofs.Answer.{guard-case, bind-case, got-inj, refused-got}
@@ -20,6 +20,7 @@ use Rattle.reader.specs.Leaf.{readNumber, ofNumber, NumberInside}
 use Rattle.reader.specs.Element.{openedAs, ofTagged, TaggedInside}
 use Rattle.reader.specs.Set.{membersFrom, ofMembers, ofSet, StepAt, StepInside}
 use Rattle.records.specs.Slots.{SetInSlots}
+use Rattle.records.specs.Clear.{SpareClear}
 use Rattle.records.specs.declared.NumberSet.{NumberSet}
 use Rattle.reader.specs.declared.element.Tagged.{Tagged}
 use Rattle.reader.specs.declared.set.Step.{Step}
@@ -79,12 +80,13 @@ pub record Gathered (s : List ℕ) (at end : ℕ) (members : List ℕ) (place lo
   pub to : place ≤ end
   pub few : n ≤ 16
   pub slots : length members ≡ 16
+  pub spare : (k : ℕ) → n ≤ k → k < 16 → getD members k 0 ≡ 0
   pub ahead : Ahead readMember afterMember s end (membersFrom at (slice at end s)) (take n members) (n, low) place
 
 module _ (s : List ℕ) (at end : ℕ) (fit : end ≤ length s) where
   pub gathered-none : at ≤ end → Gathered s at end (replicate 16 0) at 0 0
   unfolding membersFrom
-  gathered-none h = record { from = omega arith; to = h; few = omega arith; slots = refl; ahead = ahead-start readMember afterMember s end fit (0, 0) at }
+  gathered-none h = record { from = omega arith; to = h; few = omega arith; slots = refl; spare = λ k p q. getD-replicate {A = ℕ} 16 k 0 0 q; ahead = ahead-start readMember afterMember s end fit (0, 0) at }
 
   module _ (members : List ℕ) (place low n : ℕ) (g : Gathered s at end members place low n) where
     whole : Answer (List ℕ)
@@ -113,11 +115,12 @@ module _ (s : List ℕ) (at end : ℕ) (fit : end ≤ length s) where
             to = j .1;
             few = omega arith;
             slots = length-set members n v ∙ g .slots;
+            spare = λ k p q. getD-set-other members n k v 0 (λ u. absurd (omega arith)) ∙ g .spare k (omega arith) q;
             ahead = rw m (ahead-more readMember afterMember s end fit _ (take n members) (n, low) place (g .ahead) x v h (j .0) (member-is s end place n low r l e v x w o));
           }
 
-    pub gathered-slots : SetInSlots (record { members = members; count = n })
-    gathered-slots = (g .few, g .slots)
+    pub gathered-slots : SetInSlots (record { members = members; count = n }) × SpareClear (record { members = members; count = n })
+    gathered-slots = ((g .few, g .slots), g .spare)
 
     pub gathered-all : end ≤ place → got (take n members) ≡ membersFrom at (slice at end s)
     gathered-all h = ahead-end readMember afterMember s end fit _ (take n members) (n, low) place (g .ahead) (g .to) h

@@ -13,8 +13,9 @@ use Rattle.answer.specs.Answer.{Answer, got, refused, guard, bind, pick}
 use Rattle.answer.proofs.Logic.{by-le}
 use Rattle.codec.specs.Octets.{Taken, taken}
 use Rattle.codec.specs.Element.{exactly, both}
-use Rattle.schema.specs.Decode.{readOctets, readBoolean, readEnumerated, readHash, rootOf, rootParts, readRoot}
-use Rattle.records.specs.Content as records
+use Rattle.schema.specs.Decode.{readOctets, readBoolean, readEnumerated, readHash, rootFrom, rootParts, readRoot, asPlace}
+use Rattle.schema.specs.Content.{Place, placeAt}
+use Rattle.records.specs.Content.{rootOf}
 use Rattle.records.specs.declared.Part.{Part}
 use Rattle.records.specs.declared.RootOfTrust.{RootOfTrust}
 use Rattle.reader.specs.Element.{openedAs, ofTagged, TaggedInside}
@@ -62,40 +63,40 @@ bind-same (refused k p) = refl
 
 -- ---- a root of trust
 
-pub root-value : (s : List ℕ) (r : RootOfTrust) → rootOf (trustOf s r) ≡ records.rootOf s r
-root-value s r = refl
+pub root-value : (r : RootOfTrust) → rootFrom (trustOf r) ≡ rootOf placeAt r
+root-value r = refl
 
 module _ (h : Bool) (p : ℕ) (bs : List ℕ) where
-  trust-first : trustFrom h p bs ≡ bind (readOctets p bs) λ w. lockedFrom h (w .val) (w .next) (w .rest)
+  trust-first : trustFrom h p bs ≡ bind (readOctets asPlace p bs) λ w. lockedFrom h (w .val) (w .next) (w .rest)
   unfolding trustFrom lockedFrom rootParts
-  trust-first = sym (bind-same (exactly 9 (rootParts h) p bs)) ∙ exactly-both readOctets (λ k. both readBoolean λ b. both (readEnumerated 3) λ n. readHash h) (λ w. w) p bs
+  trust-first = sym (bind-same (exactly 9 (rootParts asPlace h) p bs)) ∙ exactly-both (readOctets asPlace) (λ k. both readBoolean λ b. both (readEnumerated 3) λ n. readHash asPlace h) (λ w. w) p bs
 
-  locked-first : (k : List ℕ) → lockedFrom h k p bs ≡ bind (readBoolean p bs) λ w. stateFrom h k (w .val) (w .next) (w .rest)
+  locked-first : (k : Place) → lockedFrom h k p bs ≡ bind (readBoolean p bs) λ w. stateFrom h k (w .val) (w .next) (w .rest)
   unfolding lockedFrom stateFrom
-  locked-first k = exactly-both readBoolean (λ b. both (readEnumerated 3) λ n. readHash h) (λ t. (k, t)) p bs
+  locked-first k = exactly-both readBoolean (λ b. both (readEnumerated 3) λ n. readHash asPlace h) (λ t. (k, t)) p bs
 
-  state-first : (k : List ℕ) (b : Bool) → stateFrom h k b p bs ≡ bind (readEnumerated 3 p bs) λ w. hashFrom h k b (w .val) (w .next) (w .rest)
+  state-first : (k : Place) (b : Bool) → stateFrom h k b p bs ≡ bind (readEnumerated 3 p bs) λ w. hashFrom h k b (w .val) (w .next) (w .rest)
   unfolding stateFrom hashFrom
-  state-first k b = exactly-both (readEnumerated 3) (λ n. readHash h) (λ t. (k, (b, t))) p bs
+  state-first k b = exactly-both (readEnumerated 3) (λ n. readHash asPlace h) (λ t. (k, (b, t))) p bs
 
 -- each member, as the code meets it
 module _ (s : List ℕ) (at end : ℕ) (h : Bool) where
-  module _ (r : Octets) (e : ofOctets s end r ≡ readOctets at (slice at end s)) where
+  module _ (r : Octets) (e : ofOctets s end r ≡ readOctets asPlace at (slice at end s)) where
     pub trust-no : (k p : ℕ) → r ≡ Octets.Refused k p → refused k p ≡ trustFrom h at (slice at end s)
     unfolding bind
     trust-no k p w = rw (trust-first, ← e, w) refl
 
-    pub trust-is : (b n x : ℕ) (t : Root) → r ≡ Octets.Is b n x → ofTrust s t ≡ lockedFrom h (records.octetsAt s b n) x (slice x end s) → ofTrust s t ≡ trustFrom h at (slice at end s)
+    pub trust-is : (b n x : ℕ) (t : Root) → r ≡ Octets.Is b n x → ofTrust t ≡ lockedFrom h (placeAt b n) x (slice x end s) → ofTrust t ≡ trustFrom h at (slice at end s)
     unfolding bind
     trust-is b n x t w q = rw (trust-first, ← e, w) q
 
-  module _ (key : List ℕ) (r : Number) where
+  module _ (key : Place) (r : Number) where
     module _ (e : ofBoolean s end r ≡ readBoolean at (slice at end s)) where
       pub locked-no : (k p : ℕ) → r ≡ Number.Refused k p → refused k p ≡ lockedFrom h key at (slice at end s)
       unfolding bind
       locked-no k p w = rw (locked-first, ← e, w) refl
 
-      pub locked-is : (n x : ℕ) (t : Root) → r ≡ Number.Is n x → ofTrust s t ≡ stateFrom h key (eqb n 1) x (slice x end s) → ofTrust s t ≡ lockedFrom h key at (slice at end s)
+      pub locked-is : (n x : ℕ) (t : Root) → r ≡ Number.Is n x → ofTrust t ≡ stateFrom h key (eqb n 1) x (slice x end s) → ofTrust t ≡ lockedFrom h key at (slice at end s)
       unfolding bind
       locked-is n x t w q = rw (locked-first, ← e, w) q
 
@@ -104,7 +105,7 @@ module _ (s : List ℕ) (at end : ℕ) (h : Bool) where
       unfolding bind readEnumerated readNumber
       state-no k p w = rw (state-first, ← e, w) refl
 
-      pub state-is : (n x : ℕ) (t : Root) → r ≡ Number.Is n x → ofTrust s t ≡ hashFrom h key b n x (slice x end s) → ofTrust s t ≡ stateFrom h key b at (slice at end s)
+      pub state-is : (n x : ℕ) (t : Root) → r ≡ Number.Is n x → ofTrust t ≡ hashFrom h key b n x (slice x end s) → ofTrust t ≡ stateFrom h key b at (slice at end s)
       unfolding bind readEnumerated readNumber
       state-is n x t w q = rw (state-first, ← e, w) q
 
@@ -126,15 +127,15 @@ module _ (root : RootOfTrust) (at end : ℕ) where
       (λ l. subst (RootAt end h) (end-extra l ∙ sym e) tt)
 
 -- the last member, as any reader of it
-module _ (h : Bool) (s : List ℕ) (at end : ℕ) (fit : end ≤ length s) (root : RootOfTrust) (v : Option (List ℕ)) (x : ℕ) (t : Root) where
-  hash-last : x ≤ end → readHash h at (slice at end s) ≡ got (taken v x (slice x end s)) → t ≡ rootEnd root x end
-      → trustOf s root ≡ (records.partOf s (root .key), (root .locked, (root .state, v)))
-      → ofTrust s t ≡ hashFrom h (records.partOf s (root .key)) (root .locked) (root .state) at (slice at end s)
+module _ (h : Bool) (s : List ℕ) (at end : ℕ) (fit : end ≤ length s) (root : RootOfTrust) (v : Option Place) (x : ℕ) (t : Root) where
+  hash-last : x ≤ end → readHash asPlace h at (slice at end s) ≡ got (taken v x (slice x end s)) → t ≡ rootEnd root x end
+      → trustOf root ≡ (placeAt (root .key .start) (root .key .len), (root .locked, (root .state, v)))
+      → ofTrust t ≡ hashFrom h (placeAt (root .key .start) (root .key .len)) (root .locked) (root .state) at (slice at end s)
   unfolding hashFrom bind
   hash-last i e q u =
       by-le end x
-      (λ l. rw (q, ← end-is root x end l, exactly-is (readHash h) at s end v x e (omega arith)) (ap got u))
-      (λ l. rw (q, ← end-extra root x end l, exactly-extra (readHash h) at s end v x e fit l) refl)
+      (λ l. rw (q, ← end-is root x end l, exactly-is (readHash asPlace h) at s end v x e (omega arith)) (ap got u))
+      (λ l. rw (q, ← end-extra root x end l, exactly-extra (readHash asPlace h) at s end v x e fit l) refl)
 
 -- ---- the hash
 
@@ -146,7 +147,7 @@ rootWith key b n h p z = record { key = key; locked = b; state = n; hashed = h; 
 
 module _ (s : List ℕ) (at end : ℕ) (h : Bool) (key : Part) (b : Bool) (n : ℕ) where
   module _ (t : Root) (u : not h ≡ true) (e : t ≡ rootEnd (rootWith key b n false 0 0) at end) where
-    pub hash-none : end ≤ length s → at ≤ end → ofTrust s t ≡ hashFrom h (records.partOf s key) b n at (slice at end s)
+    pub hash-none : end ≤ length s → at ≤ end → ofTrust t ≡ hashFrom h (placeAt (key .start) (key .len)) b n at (slice at end s)
     unfolding readHash pick
     hash-none fit l = rw (not-true h u) (hash-last false s at end fit (rootWith key b n false 0 0) none at t l refl e refl)
 
@@ -154,17 +155,17 @@ module _ (s : List ℕ) (at end : ℕ) (h : Bool) (key : Part) (b : Bool) (n : �
     hash-none-inside i = rw (not-true h u) (end-inside (rootWith key b n false 0 0) at end false t (i, omega arith) (refl, refl) e)
 
   module _ (r : Octets) (u : not h ≡ false) where
-    module _ (e : ofOctets s end r ≡ readOctets at (slice at end s)) where
-      pub hash-no : (k p : ℕ) → r ≡ Octets.Refused k p → refused k p ≡ hashFrom h (records.partOf s key) b n at (slice at end s)
+    module _ (e : ofOctets s end r ≡ readOctets asPlace at (slice at end s)) where
+      pub hash-no : (k p : ℕ) → r ≡ Octets.Refused k p → refused k p ≡ hashFrom h (placeAt (key .start) (key .len)) b n at (slice at end s)
       unfolding hashFrom exactly readHash bind
       hash-no k p w = rw (not-false h u, ← e, w) refl
 
       pub hash-is : (p z x : ℕ) (t : Root) → end ≤ length s → OctetsInside at end r → r ≡ Octets.Is p z x → t ≡ rootEnd (rootWith key b n true p z) x end
-          → ofTrust s t ≡ hashFrom h (records.partOf s key) b n at (slice at end s)
+          → ofTrust t ≡ hashFrom h (placeAt (key .start) (key .len)) b n at (slice at end s)
       unfolding readHash bind pick
       hash-is p z x t fit i w q =
           let j = octets-inside at end p z x r i w in
-          rw (not-false h u) (hash-last true s at end fit (rootWith key b n true p z) (some (records.octetsAt s p z)) x t (j .1 .0) (rw (← e, w) refl) q refl)
+          rw (not-false h u) (hash-last true s at end fit (rootWith key b n true p z) (some (placeAt p z)) x t (j .1 .0) (rw (← e, w) refl) q refl)
 
     pub hash-inside : (p z x : ℕ) (t : Root) → key .start + key .len ≤ end → OctetsInside at end r → r ≡ Octets.Is p z x → t ≡ rootEnd (rootWith key b n true p z) x end → RootAt end h t
     hash-inside p z x t k i w q =
@@ -174,16 +175,16 @@ module _ (s : List ℕ) (at end : ℕ) (h : Bool) (key : Part) (b : Bool) (n : �
 -- ---- the SEQUENCE
 
 module _ (s : List ℕ) (at end : ℕ) (h : Bool) (r : Tagged) (e : ofTagged s end r ≡ openedAs 1 16 at (slice at end s)) where
-  pub root-no : (k p : ℕ) → r ≡ Tagged.Refused k p → refused k p ≡ readRoot h at (slice at end s)
+  pub root-no : (k p : ℕ) → r ≡ Tagged.Refused k p → refused k p ≡ readRoot asPlace h at (slice at end s)
   unfolding readRoot
   root-no k p w = sym (leaf-no _ at 1 16 s end r e k p w)
 
-  trust-as-root : (b x : ℕ) (t : Root) → ofTrust s t ≡ trustFrom h b (slice b x s) → RootAt x h t → ofRoot s end t ≡ bind (trustFrom h b (slice b x s)) (λ a. got (taken a x (slice x end s)))
+  trust-as-root : (b x : ℕ) (t : Root) → ofTrust t ≡ trustFrom h b (slice b x s) → RootAt x h t → ofRoot s end t ≡ bind (trustFrom h b (slice b x s)) (λ a. got (taken a x (slice x end s)))
   unfolding bind
   trust-as-root b x (Root.Is g y) q i = rw (← q, i .0) refl
   trust-as-root b x (Root.Refused k p) q i = rw (← q) refl
 
-  pub root-is : (b x : ℕ) (t : Root) → r ≡ Tagged.Is b x → ofTrust s t ≡ trustFrom h b (slice b x s) → RootAt x h t → ofRoot s end t ≡ readRoot h at (slice at end s)
+  pub root-is : (b x : ℕ) (t : Root) → r ≡ Tagged.Is b x → ofTrust t ≡ trustFrom h b (slice b x s) → RootAt x h t → ofRoot s end t ≡ readRoot asPlace h at (slice at end s)
   unfolding readRoot trustFrom
   root-is b x t w q i = trust-as-root b x t q i ∙ sym (leaf-is _ at 1 16 s end r e b x w)
 

@@ -5,10 +5,10 @@ use Prim.Native.Nat.{ℕ}
 use lib.Dec.{eqb}
 use Rattle.answer.specs.Answer.{Answer, got, refused, pick}
 use Rattle.schema.specs.Table.{Kind, set, number32, number64, null, octets, root}
-use Rattle.schema.specs.Content.{Value, num, nul, oct, nums, trust}
-use Rattle.records.specs.Content.{octetsAt, membersOf, rootOf}
+use Rattle.schema.specs.Content.{ValueWith, num, nul, oct, nums, trust, Place, placeAt}
+use Rattle.records.specs.Content.{membersOf, rootOf}
 use Rattle.records.specs.declared.RootOfTrust.{RootOfTrust}
-use Rattle.reader.specs.Empty.{emptySet, emptyRoot}
+use Rattle.records.specs.Empty.{emptySet, emptyRoot}
 use Rattle.reader.specs.declared.set.Step.{Step}
 use Rattle.reader.specs.declared.content.ContentRead.{ContentRead}
 
@@ -25,10 +25,10 @@ abbrev pub plainContent : Step → ℕ → ℕ → ContentRead
 plainContent t v z = record { step = t; value = v; size = z; set = emptySet; root = emptyRoot }
 
 -- the value that it is, by the field's kind
-unfoldable pub contentValue : List ℕ → Kind → ContentRead → Value
-contentValue s number32 c = num (c .value)
-contentValue s number64 c = num (c .value)
-contentValue s null c = nul
-contentValue s octets c = oct (octetsAt s (c .value) (c .size))
-contentValue s set c = nums (membersOf (c .set))
-contentValue s root c = trust (rootOf s (c .root))
+unfoldable pub contentValue : Kind → ContentRead → ValueWith Place
+contentValue number32 c = num (c .value)
+contentValue number64 c = num (c .value)
+contentValue null c = nul
+contentValue octets c = oct (placeAt (c .value) (c .size))
+contentValue set c = nums (membersOf (c .set))
+contentValue root c = trust (rootOf placeAt (c .root))

@@ -8,9 +8,8 @@ use Rattle.answer.specs.Answer.{Answer, got, refused, bind}
 use Rattle.codec.specs.Octets.{Taken, taken}
 use Rattle.codec.specs.Element.{both}
 use Rattle.schema.specs.Table.{knownVersion, levelTop, top32}
-use Rattle.schema.specs.Content.{Field}
-use Rattle.schema.specs.Decode.{readInteger, readEnumerated, readOctets, readList, readVersion, Eight}
-use Rattle.records.specs.Content.{partOf}
+use Rattle.schema.specs.Content.{FieldWith, Place, placeAt}
+use Rattle.schema.specs.Decode.{readInteger, readEnumerated, readOctets, readList, readVersion, Eight, asPlace}
 use Rattle.reader.specs.declared.leaf.Number.{Number}
 use Rattle.reader.specs.declared.head.Secured.{Secured}
 use Rattle.reader.specs.declared.head.Names.{Names}
@@ -22,21 +21,21 @@ pub record Heading : Type 0 where
   pub level : ℕ
   pub keymint : ℕ
   pub keymintLevel : ℕ
-  pub challenge : List ℕ
-  pub unique : List ℕ
+  pub challenge : Place
+  pub unique : Place
 
-abbrev pub heading : ℕ × ℕ → ℕ × ℕ → List ℕ × List ℕ → Heading
+abbrev pub heading : ℕ × ℕ → ℕ × ℕ → Place × Place → Heading
 heading a k n = record { version = a .0; level = a .1; keymint = k .0; keymintLevel = k .1; challenge = n .0; unique = n .1 }
 
 -- with the two lists they are the eight
-abbrev pub eightWith : Heading → List Field → List Field → Eight
+abbrev pub eightWith : Heading → List (FieldWith Place) → List (FieldWith Place) → Eight Place
 eightWith h s w = (h .version, (h .level, (h .keymint, (h .keymintLevel, (h .challenge, (h .unique, (s, w)))))))
 
 -- the two lists that follow the six, and with them the eight
-abbrev pub listsAfter : Heading → ℕ → List ℕ → Answer (Taken Eight)
+abbrev pub listsAfter : Heading → ℕ → List ℕ → Answer (Taken (Eight Place))
 listsAfter h p bs =
-    bind (readList (h .version) p bs) λ s.
-    bind (readList (h .version) (s .next) (s .rest)) λ w.
+    bind (readList asPlace (h .version) p bs) λ s.
+    bind (readList asPlace (h .version) (s .next) (s .rest)) λ w.
     got (taken (eightWith h (s .val) (w .val)) (w .next) (w .rest))
 
 -- "version INTEGER, level ENUMERATED"
@@ -48,8 +47,8 @@ unfoldable pub readKeymint : ℕ → ℕ → List ℕ → Answer (Taken (ℕ × 
 readKeymint v = both (readInteger top32) λ k. readEnumerated (levelTop v)
 
 -- "challenge OCTET STRING, uniqueId OCTET STRING"
-unfoldable pub readNames : ℕ → List ℕ → Answer (Taken (List ℕ × List ℕ))
-readNames = both readOctets λ c. readOctets
+unfoldable pub readNames : ℕ → List ℕ → Answer (Taken (Place × Place))
+readNames = both (readOctets asPlace) λ c. readOctets asPlace
 
 -- a level, after the version v
 unfoldable pub levelAfter : ℕ → ℕ → ℕ → List ℕ → Answer (Taken (ℕ × ℕ))
@@ -71,12 +70,12 @@ module _ (s : List ℕ) (end : ℕ) where
   ofSecured (Secured.Is g x) = got (taken (g .version, g .level) x (slice x end s))
   ofSecured (Secured.Refused k p) = refused k p
 
-  abbrev pub ofNames : Names → Answer (Taken (List ℕ × List ℕ))
-  ofNames (Names.Is c u x) = got (taken (partOf s c, partOf s u) x (slice x end s))
+  abbrev pub ofNames : Names → Answer (Taken (Place × Place))
+  ofNames (Names.Is c u x) = got (taken (placeAt (c .start) (c .len), placeAt (u .start) (u .len)) x (slice x end s))
   ofNames (Names.Refused k p) = refused k p
 
   abbrev pub ofHead : Head → Answer (Taken Heading)
-  ofHead (Head.Is a m c u x) = got (taken (heading (a .version, a .level) (m .version, m .level) (partOf s c, partOf s u)) x (slice x end s))
+  ofHead (Head.Is a m c u x) = got (taken (heading (a .version, a .level) (m .version, m .level) (placeAt (c .start) (c .len), placeAt (u .start) (u .len))) x (slice x end s))
   ofHead (Head.Refused k p) = refused k p
 
 -- a version of the schema, within its top

@@ -1,10 +1,13 @@
--- What the reader keeps of a record while it fills it, absent fields too: sets within their slots and octet parts within
--- n bytes. With a content that is well-shaped, a record so kept is well-shaped and its parts are inside.
+-- What the reader keeps of a record while it fills it, absent fields too: sets within their slots, octet parts within n
+-- bytes, and all that is absent or spare zero. With a content that is well-shaped, a record so kept is well-shaped, its parts
+-- are inside, and it is `recordMade` of its places.
 use mathlib.Core.Path.{_≡_}
+use mathlib.Core.Bool.{Bool, true, false}
 use Prim.Native.Nat.{ℕ, _+_, _<_, _≤_}
-use lib.ListN.{length, getD}
-use Rattle.schema.specs.Table.{Kind, octets, rowAt}
+use lib.ListN.{getD}
+use Rattle.schema.specs.Table.{Kind, octets, rowAt, rowCount}
 use Rattle.records.specs.Slots.{SetInSlots, InSlots}
+use Rattle.records.specs.Clear.{usesValue, usesSize, SpareClear, HashClear, Sized, ListClear}
 use Rattle.records.specs.declared.NumberSet.{NumberSet}
 use Rattle.records.specs.declared.FieldList.{FieldList}
 use Rattle.records.specs.declared.Record.{Record}
@@ -14,21 +17,29 @@ use Rattle.reader.specs.declared.content.ContentRead.{ContentRead}
 
 -- a set that was read
 abbrev pub StepSlots : Step → NumberSet → Type 0
-StepSlots (Step.Past x) g = SetInSlots g
+StepSlots (Step.Past x) g = SetInSlots g × SpareClear g
 StepSlots (Step.Refused k p) g = Unit {0}
 
--- a content's set and root of trust
-abbrev pub PlainIn : ℕ → ContentRead → Type 0
-PlainIn n c = SetInSlots (c .set) × PartsIn n (c .root)
+-- a content that has a number or a start (value), a length (size), or neither
+pub record ContentIn (value size : Bool) (n : ℕ) (c : ContentRead) : Type 0 where
+  pub set : SetInSlots (c .set)
+  pub spare : SpareClear (c .set)
+  pub root : PartsIn n (c .root)
+  pub hash : HashClear (c .root)
+  pub noValue : value ≡ false → c .value ≡ 0
+  pub noSize : size ≡ false → c .size ≡ 0
+  pub octet : size ≡ true → c .value + c .size ≤ n
 
 -- a content, by its field's kind
-abbrev pub ContentIn : Kind → ℕ → ContentRead → Type 0
-ContentIn k n c = PlainIn n c × (k ≡ octets → c .value + c .size ≤ n)
+abbrev pub ContentKept : Kind → ℕ → ContentRead → Type 0
+ContentKept k n c = ContentIn (usesValue k) (usesSize k) n c
 
 pub record ListIn (n : ℕ) (l : FieldList) : Type 0 where
+  pub sized : Sized l
   pub sets : InSlots l
   pub root : PartsIn n (l .root)
-  pub octet : (k : ℕ) → k < 42 → rowAt k .kind ≡ octets → getD (l .values) k 0 + getD (l .sizes) k 0 ≤ n
+  pub octet : (k : ℕ) → k < rowCount → rowAt k .kind ≡ octets → getD (l .values) k 0 + getD (l .sizes) k 0 ≤ n
+  pub clear : ListClear l
 
 pub record RecordIn (n : ℕ) (r : Record) : Type 0 where
   pub challenge : r .challenge .start + r .challenge .len ≤ n

@@ -10,7 +10,7 @@ use Rattle.codec.specs.Octets.{Taken, taken}
 use Rattle.codec.specs.Integer.{integerOf}
 use Rattle.codec.specs.Header.{identifier}
 use Rattle.codec.specs.Element.{tagged}
-use Rattle.records.specs.Content.{octetsAt}
+use Rattle.schema.specs.Content.{Place, placeAt}
 use Rattle.reader.specs.declared.leaf.Value.{Value}
 use Rattle.reader.specs.declared.leaf.Number.{Number}
 use Rattle.reader.specs.declared.leaf.Octets.{Octets}
@@ -40,8 +40,8 @@ module _ (s : List ℕ) (end : ℕ) where
   ofNull (Number.Is n x) = got (taken tt x (slice x end s))
   ofNull (Number.Refused k p) = refused k p
 
-  abbrev pub ofOctets : Octets → Answer (Taken (List ℕ))
-  ofOctets (Octets.Is b n x) = got (taken (octetsAt s b n) x (slice x end s))
+  abbrev pub ofOctets : Octets → Answer (Taken Place)
+  ofOctets (Octets.Is b n x) = got (taken (placeAt b n) x (slice x end s))
   ofOctets (Octets.Refused k p) = refused k p
 
 -- what was read goes on and stays inside

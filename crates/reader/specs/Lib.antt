@@ -1,4 +1,3 @@
-pub mod Empty
 pub mod Element
 pub mod Leaf
 pub mod Set

@@ -8,11 +8,11 @@ use lib.Seq.{slice}
 use Rattle.answer.specs.Answer.{Answer, got, refused, pick}
 use Rattle.codec.specs.Octets.{Taken, taken}
 use Rattle.codec.specs.Element.{chain}
-use Rattle.schema.specs.Content.{Field, afterField}
-use Rattle.schema.specs.Decode.{readField}
+use Rattle.schema.specs.Content.{FieldWith, Place, placeAt, afterField}
+use Rattle.schema.specs.Decode.{readField, asPlace}
 use Rattle.records.specs.Content.{fieldsOf}
 use Rattle.records.specs.declared.FieldList.{FieldList}
-use Rattle.reader.specs.Empty.{emptySet, emptyRoot}
+use Rattle.records.specs.Empty.{emptySet, emptyRoot}
 use Rattle.reader.specs.declared.set.Step.{Step}
 use Rattle.reader.specs.declared.content.ContentRead.{ContentRead}
 
@@ -30,13 +30,13 @@ withField l row c = record {
 }
 
 -- the fields of a list's content, read one after the other
-unfoldable pub fieldsFrom : ℕ → ℕ → List ℕ → Answer (List Field)
-fieldsFrom v p bs = chain (readField v) afterField 0 p bs
+unfoldable pub fieldsFrom : ℕ → ℕ → List ℕ → Answer (List (FieldWith Place))
+fieldsFrom v p bs = chain (readField asPlace v) afterField 0 p bs
 
-abbrev pub ofFields : List ℕ → Step → FieldList → Answer (List Field)
-ofFields s (Step.Past x) l = got (fieldsOf l s)
-ofFields s (Step.Refused k p) l = refused k p
+abbrev pub ofFields : Step → FieldList → Answer (List (FieldWith Place))
+ofFields (Step.Past x) l = got (fieldsOf l placeAt)
+ofFields (Step.Refused k p) l = refused k p
 
-abbrev pub ofList : List ℕ → ℕ → Step → FieldList → Answer (Taken (List Field))
-ofList s end (Step.Past x) l = got (taken (fieldsOf l s) x (slice x end s))
+abbrev pub ofList : List ℕ → ℕ → Step → FieldList → Answer (Taken (List (FieldWith Place)))
+ofList s end (Step.Past x) l = got (taken (fieldsOf l placeAt) x (slice x end s))
 ofList s end (Step.Refused k p) l = refused k p

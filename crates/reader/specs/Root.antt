@@ -10,38 +10,38 @@ use Rattle.answer.specs.Answer.{Answer, got, refused, bind, pick}
 use Rattle.answer.specs.Refusal.{wrongElement}
 use Rattle.codec.specs.Octets.{Taken, taken}
 use Rattle.codec.specs.Element.{exactly, both}
-use Rattle.schema.specs.Decode.{readBoolean, readEnumerated, readHash, rootParts}
-use Rattle.records.specs.Content.{partOf}
+use Rattle.schema.specs.Content.{Place, placeAt}
+use Rattle.schema.specs.Decode.{readBoolean, readEnumerated, readHash, RootParts, rootParts, asPlace}
 use Rattle.records.specs.declared.RootOfTrust.{RootOfTrust}
 use Rattle.reader.specs.declared.root.Root.{Root}
 
 -- key, locked, state and hash, as the definitions nest them
 abbrev pub Trust : Type 0
-Trust = List ℕ × (Bool × (ℕ × Option (List ℕ)))
+Trust = RootParts Place
 
-abbrev pub trustOf : List ℕ → RootOfTrust → Trust
-trustOf s r = (partOf s (r .key), (r .locked, (r .state, pick (r .hashed) (some (partOf s (r .hash))) none)))
+abbrev pub trustOf : RootOfTrust → Trust
+trustOf r = (placeAt (r .key .start) (r .key .len), (r .locked, (r .state, pick (r .hashed) (some (placeAt (r .hash .start) (r .hash .len))) none)))
 
-abbrev pub ofTrust : List ℕ → Root → Answer Trust
-ofTrust s (Root.Is r x) = got (trustOf s r)
-ofTrust s (Root.Refused k p) = refused k p
+abbrev pub ofTrust : Root → Answer Trust
+ofTrust (Root.Is r x) = got (trustOf r)
+ofTrust (Root.Refused k p) = refused k p
 
 abbrev pub ofRoot : List ℕ → ℕ → Root → Answer (Taken Trust)
-ofRoot s end (Root.Is r x) = got (taken (trustOf s r) x (slice x end s))
+ofRoot s end (Root.Is r x) = got (taken (trustOf r) x (slice x end s))
 ofRoot s end (Root.Refused k p) = refused k p
 
 -- "content, then 9 for an extra element": the whole content, and what is left of it after what was read
 unfoldable pub trustFrom : Bool → ℕ → List ℕ → Answer Trust
-trustFrom h = exactly wrongElement (rootParts h)
+trustFrom h = exactly wrongElement (rootParts asPlace h)
 
-unfoldable pub lockedFrom : Bool → List ℕ → ℕ → List ℕ → Answer Trust
-lockedFrom h k p bs = bind (exactly wrongElement (both readBoolean λ b. both (readEnumerated 3) λ n. readHash h) p bs) λ t. got (k, t)
+unfoldable pub lockedFrom : Bool → Place → ℕ → List ℕ → Answer Trust
+lockedFrom h k p bs = bind (exactly wrongElement (both readBoolean λ b. both (readEnumerated 3) λ n. readHash asPlace h) p bs) λ t. got (k, t)
 
-unfoldable pub stateFrom : Bool → List ℕ → Bool → ℕ → List ℕ → Answer Trust
-stateFrom h k b p bs = bind (exactly wrongElement (both (readEnumerated 3) λ n. readHash h) p bs) λ t. got (k, (b, t))
+unfoldable pub stateFrom : Bool → Place → Bool → ℕ → List ℕ → Answer Trust
+stateFrom h k b p bs = bind (exactly wrongElement (both (readEnumerated 3) λ n. readHash asPlace h) p bs) λ t. got (k, (b, t))
 
-unfoldable pub hashFrom : Bool → List ℕ → Bool → ℕ → ℕ → List ℕ → Answer Trust
-hashFrom h k b n p bs = bind (exactly wrongElement (readHash h) p bs) λ t. got (k, (b, (n, t)))
+unfoldable pub hashFrom : Bool → Place → Bool → ℕ → ℕ → List ℕ → Answer Trust
+hashFrom h k b n p bs = bind (exactly wrongElement (readHash asPlace h) p bs) λ t. got (k, (b, (n, t)))
 
 abbrev pub rootEnd : RootOfTrust → ℕ → ℕ → Root
 rootEnd r at end = pick (ltb at end) (Root.Refused wrongElement at) (Root.Is r end)

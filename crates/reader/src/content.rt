@@ -15,19 +15,21 @@ use records::Part;
 use records::RootOfTrust;
 use schema::Kind;
 ghost use mathlib.Core.Path.{_≡_};
-ghost use Prim.Native.Nat.{ℕ, _+_, _≤_};
+ghost use mathlib.Core.Bool.{true, false};
+ghost use Prim.Native.Nat.{ℕ, _≤_};
 ghost use lib.ListN.{length};
 ghost use lib.Seq.{slice};
 ghost use Rattle.codec.specs.Element.{exactly};
 ghost use Rattle.schema.specs.Table as table;
 ghost use Rattle.schema.specs.Rows.{ofKind};
-ghost use Rattle.schema.specs.Decode.{contentOf, readOctets, readNull, readSet, readRoot};
-ghost use Rattle.records.specs.Content.{octetsAt, membersOf};
+ghost use Rattle.schema.specs.Content.{placeAt};
+ghost use Rattle.schema.specs.Decode.{readValue, readOctets, readNull, readSet, readRoot, asPlace};
+ghost use Rattle.records.specs.Content.{membersOf};
 ghost use Rattle.reader.specs.Leaf.{readNumber};
 ghost use Rattle.reader.specs.Root.{trustOf};
 ghost use Rattle.reader.specs.Content.{ofStepped, endStep, plainContent, contentValue};
-ghost use Rattle.reader.specs.Empty.{emptyRoot};
-ghost use Rattle.reader.specs.Inside.{PlainIn, ContentIn};
+ghost use Rattle.records.specs.Empty.{emptyRoot};
+ghost use Rattle.reader.specs.Inside.{ContentIn, ContentKept};
 
 // A field's content, whatever its kind: a number; or a part of the bytes, its start in value; or a set; or 704's.
 pub(crate) struct ContentRead {
@@ -76,7 +78,7 @@ fn at_end(next: usize, end: usize) -> Step
 fn number_content(s: &[u8], at: usize, end: usize, top: u64) -> ContentRead
     requires { ⌜ end ≤ length (now s) ⌝ }
     ensures is { λ r. ⌜ ofStepped (r .step) (r .value) ≡ exactly 9 (readNumber 2 top) at (slice at end (now (s .entry))) ⌝ }
-    ensures bounds { λ r. ⌜ PlainIn (length (now (s .entry))) r ⌝ }
+    ensures bounds { λ r. ⌜ ContentIn true false (length (now (s .entry))) r ⌝ }
 {
     match read_number(s, at, end, 2, top) {
         Number::Refused(k, place) => plain(Step::Refused(k, place), 0, 0),
@@ -87,7 +89,7 @@ fn number_content(s: &[u8], at: usize, end: usize, top: u64) -> ContentRead
 fn null_content(s: &[u8], at: usize, end: usize) -> ContentRead
     requires { ⌜ end ≤ length (now s) ⌝ }
     ensures is { λ r. ⌜ ofStepped (r .step) tt ≡ exactly 9 readNull at (slice at end (now (s .entry))) ⌝ }
-    ensures bounds { λ r. ⌜ PlainIn (length (now (s .entry))) r ⌝ }
+    ensures bounds { λ r. ⌜ ContentIn false false (length (now (s .entry))) r ⌝ }
 {
     match read_null(s, at, end) {
         Number::Refused(k, place) => plain(Step::Refused(k, place), 0, 0),
@@ -97,8 +99,8 @@ fn null_content(s: &[u8], at: usize, end: usize) -> ContentRead
 
 fn octets_content(s: &[u8], at: usize, end: usize) -> ContentRead
     requires { ⌜ end ≤ length (now s) ⌝ }
-    ensures is { λ r. ⌜ ofStepped (r .step) (octetsAt (now (s .entry)) (r .value) (r .size)) ≡ exactly 9 readOctets at (slice at end (now (s .entry))) ⌝ }
-    ensures bounds { λ r. ⌜ PlainIn (length (now (s .entry))) r × (r .value + r .size ≤ length (now (s .entry))) ⌝ }
+    ensures is { λ r. ⌜ ofStepped (r .step) (placeAt (r .value) (r .size)) ≡ exactly 9 (readOctets asPlace) at (slice at end (now (s .entry))) ⌝ }
+    ensures bounds { λ r. ⌜ ContentIn true true (length (now (s .entry))) r ⌝ }
 {
     match read_octets(s, at, end) {
         Octets::Refused(k, place) => plain(Step::Refused(k, place), 0, 0),
@@ -109,7 +111,7 @@ fn octets_content(s: &[u8], at: usize, end: usize) -> ContentRead
 fn set_content(s: &[u8], at: usize, end: usize) -> ContentRead
     requires { ⌜ end ≤ length (now s) ⌝ }
     ensures is { λ r. ⌜ ofStepped (r .step) (membersOf (r .set)) ≡ exactly 9 readSet at (slice at end (now (s .entry))) ⌝ }
-    ensures bounds { λ r. ⌜ PlainIn (length (now (s .entry))) r ⌝ }
+    ensures bounds { λ r. ⌜ ContentIn false false (length (now (s .entry))) r ⌝ }
 {
     let got = read_set(s, at, end);
     let set = got.set;
@@ -128,8 +130,8 @@ fn set_content(s: &[u8], at: usize, end: usize) -> ContentRead
 
 fn root_content(s: &[u8], at: usize, end: usize, hashed: bool) -> ContentRead
     requires { ⌜ end ≤ length (now s) ⌝ }
-    ensures is { λ r. ⌜ ofStepped (r .step) (trustOf (now (s .entry)) (r .root)) ≡ exactly 9 (readRoot hashed) at (slice at end (now (s .entry))) ⌝ }
-    ensures bounds { λ r. ⌜ PlainIn (length (now (s .entry))) r ⌝ }
+    ensures is { λ r. ⌜ ofStepped (r .step) (trustOf (r .root)) ≡ exactly 9 (readRoot asPlace hashed) at (slice at end (now (s .entry))) ⌝ }
+    ensures bounds { λ r. ⌜ ContentIn false false (length (now (s .entry))) r ⌝ }
 {
     match read_root(s, at, end, hashed) {
         Root::Refused(k, place) => plain(Step::Refused(k, place), 0, 0),
@@ -146,8 +148,8 @@ fn root_content(s: &[u8], at: usize, end: usize, hashed: bool) -> ContentRead
 // The content of a field, by its kind.
 pub(crate) fn read_content(s: &[u8], at: usize, end: usize, kind: Kind, hashed: bool) -> ContentRead
     requires { ⌜ end ≤ length (now s) ⌝ }
-    ensures is { λ r. ⌜ ((v p : ℕ) → hashed ≡ table.hashed v → ofStepped (r .step) (contentValue (now (s .entry)) (ofKind kind) r) ≡ contentOf v (ofKind kind) p at (slice at end (now (s .entry)))) ⌝ }
-    ensures bounds { λ r. ⌜ ContentIn (ofKind kind) (length (now (s .entry))) r ⌝ }
+    ensures is { λ r. ⌜ ((v p : ℕ) → hashed ≡ table.hashed v → ofStepped (r .step) (contentValue (ofKind kind) r) ≡ readValue asPlace v (ofKind kind) p at (slice at end (now (s .entry)))) ⌝ }
+    ensures bounds { λ r. ⌜ ContentKept (ofKind kind) (length (now (s .entry))) r ⌝ }
 {
     match kind {
         Kind::Number32 => number_content(s, at, end, 0xffff_ffff),

@@ -12,7 +12,7 @@ ghost use Prim.Native.Nat.{_≤_};
 ghost use lib.ListN.{length};
 ghost use lib.Seq.{slice};
 ghost use Rattle.reader.specs.Set.{StepInside};
-ghost use Rattle.reader.specs.Empty.{emptyRecord};
+ghost use Rattle.records.specs.Empty.{emptyRecord};
 ghost use Rattle.reader.specs.Eight.{refusedEight, readContent, ofEight};
 ghost use Rattle.reader.specs.Inside.{RecordIn};
 
@@ -23,7 +23,7 @@ pub(crate) struct EightRead {
 }
 
 // A record that says nothing: what stands beside a refusal.
-pub(crate) fn empty_record() -> Record
+pub fn empty_record() -> Record
     ensures { λ r. ⌜ r ≡ emptyRecord ⌝ }
 {
     let none = Security {

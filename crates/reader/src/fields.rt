@@ -20,11 +20,11 @@ ghost use mathlib.Core.Path.{_≡_};
 ghost use Prim.Native.Nat.{_≤_};
 ghost use lib.ListN.{length};
 ghost use lib.Seq.{slice};
-ghost use Rattle.schema.specs.Decode.{readField, readList};
+ghost use Rattle.schema.specs.Decode.{readField, readList, asPlace};
 ghost use Rattle.reader.specs.Set.{StepAt, StepInside};
 ghost use Rattle.reader.specs.Fields.{FieldOpened, ofField, FieldInside};
 ghost use Rattle.reader.specs.Lists.{fieldsFrom, ofFields, ofList};
-ghost use Rattle.reader.specs.Empty.{emptyList};
+ghost use Rattle.records.specs.Empty.{emptyList};
 ghost use Rattle.reader.specs.Inside.{ListIn};
 
 // A field: its row and number, and its content from body to stop; or a refusal with its place.
@@ -85,7 +85,7 @@ pub(crate) struct FieldRead {
 // "content, then 9 for an extra element": one field, up to its end.
 fn read_field(s: &[u8], at: usize, end: usize, version: u32, low: usize) -> FieldRead
     requires { ⌜ end ≤ length (now s) ⌝ }
-    ensures is { λ r. ⌜ ofField (now (s .entry)) end (r .content .step) r ≡ readField version low at (slice at end (now (s .entry))) ⌝ }
+    ensures is { λ r. ⌜ ofField (now (s .entry)) end (r .content .step) r ≡ readField asPlace version low at (slice at end (now (s .entry))) ⌝ }
     ensures inside { λ r. ⌜ FieldInside (length (now (s .entry))) at end low (r .content .step) r ⌝ }
 {
     match open_field(s, at, end, version, low) {
@@ -137,7 +137,7 @@ pub(crate) fn empty_list() -> FieldList
 // The fields from at to end, stored by their rows.
 fn read_fields(s: &[u8], at: usize, end: usize, version: u32) -> ListRead
     requires { ⌜ (at ≤ end) × (end ≤ length (now s)) ⌝ }
-    ensures is { λ r. ⌜ ofFields (now (s .entry)) (r .step) (r .list) ≡ fieldsFrom version at (slice at end (now (s .entry))) ⌝ }
+    ensures is { λ r. ⌜ ofFields (r .step) (r .list) ≡ fieldsFrom version at (slice at end (now (s .entry))) ⌝ }
     ensures inside { λ r. ⌜ StepAt end (r .step) ⌝ }
     ensures bounds { λ r. ⌜ ListIn (length (now (s .entry))) (r .list) ⌝ }
 {
@@ -184,7 +184,7 @@ fn read_fields(s: &[u8], at: usize, end: usize, version: u32) -> ListRead
 // One list: a SEQUENCE of fields.
 pub(crate) fn read_list(s: &[u8], at: usize, end: usize, version: u32) -> ListRead
     requires { ⌜ end ≤ length (now s) ⌝ }
-    ensures is { λ r. ⌜ ofList (now (s .entry)) end (r .step) (r .list) ≡ readList version at (slice at end (now (s .entry))) ⌝ }
+    ensures is { λ r. ⌜ ofList (now (s .entry)) end (r .step) (r .list) ≡ readList asPlace version at (slice at end (now (s .entry))) ⌝ }
     ensures inside { λ r. ⌜ StepInside at end (r .step) ⌝ }
     ensures bounds { λ r. ⌜ ListIn (length (now (s .entry))) (r .list) ⌝ }
 {

@@ -8,7 +8,7 @@ ghost use lib.ListN.{length, getD};
 ghost use lib.Seq.{slice};
 ghost use Rattle.codec.specs.Shortest.{bigEndian};
 ghost use Rattle.codec.specs.Integer.{integerOf};
-ghost use Rattle.schema.specs.Decode.{readOctets, readBoolean, readNull};
+ghost use Rattle.schema.specs.Decode.{readOctets, readBoolean, readNull, asPlace};
 ghost use Rattle.reader.specs.Leaf.{readNumber, withinTop, ofValue, ofNumber, ofOctets, ofBoolean, ofNull, NumberInside, OctetsInside};
 
 // The number that content octets spell, shortest, not negative and within its top; or content that is wrong.
@@ -110,7 +110,7 @@ pub(crate) fn read_number(s: &[u8], at: usize, end: usize, tag: usize, top: u64)
 // An OCTET STRING, whose content stays where it is.
 pub(crate) fn read_octets(s: &[u8], at: usize, end: usize) -> Octets
     requires { ⌜ end ≤ length (now s) ⌝ }
-    ensures is { λ r. ⌜ ofOctets (now (s .entry)) end r ≡ readOctets at (slice at end (now (s .entry))) ⌝ }
+    ensures is { λ r. ⌜ ofOctets (now (s .entry)) end r ≡ readOctets asPlace at (slice at end (now (s .entry))) ⌝ }
     ensures inside { λ r. ⌜ OctetsInside at end r ⌝ }
 {
     match open_tagged(s, at, end, 0, 4) {

@@ -20,9 +20,8 @@ use der::walk::Walked;
 use records::Record;
 ghost use mathlib.Core.Path.{_≡_};
 ghost use lib.ListN.{length};
-ghost use Rattle.schema.specs.Decode as schema;
-ghost use Rattle.reader.specs.Reading.{ofReading, RefusedEmpty, AcceptedSound};
-ghost use Rattle.reader.specs.Eight.{refusedReading, readWith};
+ghost use Rattle.reader.specs.Reading.{ofReading, RefusedEmpty, Reads};
+ghost use Rattle.reader.specs.Eight.{refusedReading, readCounted};
 ghost use Rattle.reader.specs.Inside.{RecordIn};
 
 // Accepted, with the count of elements; or a refusal with its place.
@@ -49,7 +48,7 @@ fn refused(number: u8, place: usize) -> Reading
 
 // The schema over bytes that the first pass accepted, with count elements.
 fn read_description(s: &[u8], count: usize) -> Reading
-    ensures is { λ r. ⌜ ofReading (now (s .entry)) (r .outcome) (r .said) ≡ readWith count (now (s .entry)) ⌝ }
+    ensures is { λ r. ⌜ ofReading (r .outcome) (r .said) ≡ readCounted count (now (s .entry)) ⌝ }
     ensures empty { λ r. ⌜ RefusedEmpty (r .outcome) (r .said) ⌝ }
     ensures bounds { λ r. ⌜ RecordIn (length (now (s .entry))) (r .said) ⌝ }
 {
@@ -81,9 +80,7 @@ fn read_description(s: &[u8], count: usize) -> Reading
 
 // Reads one extension: the first pass, and then the schema. Any bytes get an answer, and nothing lent is changed.
 pub fn read(s: &[u8]) -> Reading
-    ensures is { λ r. ⌜ ofReading (now (s .entry)) (r .outcome) (r .said) ≡ schema.read (now (s .entry)) ⌝ }
-    ensures empty { λ r. ⌜ RefusedEmpty (r .outcome) (r .said) ⌝ }
-    ensures sound { λ r. ⌜ AcceptedSound (length (now (s .entry))) (r .outcome) (r .said) ⌝ }
+    ensures { λ r. ⌜ Reads (now (s .entry)) (r .outcome) (r .said) ⌝ }
 {
     match der::walk::walk(s, Limits::extension()) {
         Walked::Refused(k, place) => refused(k, place),

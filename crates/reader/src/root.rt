@@ -13,8 +13,8 @@ ghost use mathlib.Core.Path.{_≡_};
 ghost use Prim.Native.Nat.{_+_, _≤_};
 ghost use lib.ListN.{length};
 ghost use lib.Seq.{slice};
-ghost use Rattle.records.specs.Content.{partOf};
-ghost use Rattle.schema.specs.Decode.{readRoot};
+ghost use Rattle.schema.specs.Content.{placeAt};
+ghost use Rattle.schema.specs.Decode.{readRoot, asPlace};
 ghost use Rattle.reader.specs.Root.{ofTrust, ofRoot, trustFrom, lockedFrom, stateFrom, hashFrom, rootEnd, RootAt, RootInside};
 
 // A root of trust and the next place; or a refusal with its place.
@@ -44,7 +44,7 @@ fn read_hash(
     state: u32,
 ) -> Root
     requires { ⌜ (end ≤ length (now s)) × ((at ≤ end) × (key .start + key .len ≤ end)) ⌝ }
-    ensures is { λ r. ⌜ ofTrust (now (s .entry)) r ≡ hashFrom hashed (partOf (now (s .entry)) key) locked state at (slice at end (now (s .entry))) ⌝ }
+    ensures is { λ r. ⌜ ofTrust r ≡ hashFrom hashed (placeAt (key .start) (key .len)) locked state at (slice at end (now (s .entry))) ⌝ }
     ensures inside { λ r. ⌜ RootAt end hashed r ⌝ }
 {
     if !hashed {
@@ -75,7 +75,7 @@ fn read_hash(
 // The state, and what follows it.
 fn read_state(s: &[u8], at: usize, end: usize, hashed: bool, key: Part, locked: bool) -> Root
     requires { ⌜ (end ≤ length (now s)) × (key .start + key .len ≤ end) ⌝ }
-    ensures is { λ r. ⌜ ofTrust (now (s .entry)) r ≡ stateFrom hashed (partOf (now (s .entry)) key) locked at (slice at end (now (s .entry))) ⌝ }
+    ensures is { λ r. ⌜ ofTrust r ≡ stateFrom hashed (placeAt (key .start) (key .len)) locked at (slice at end (now (s .entry))) ⌝ }
     ensures inside { λ r. ⌜ RootAt end hashed r ⌝ }
 {
     match read_number(s, at, end, 10, 3) {
@@ -87,7 +87,7 @@ fn read_state(s: &[u8], at: usize, end: usize, hashed: bool, key: Part, locked: 
 // Whether it is locked, and what follows that.
 fn read_locked(s: &[u8], at: usize, end: usize, hashed: bool, key: Part) -> Root
     requires { ⌜ (end ≤ length (now s)) × (key .start + key .len ≤ end) ⌝ }
-    ensures is { λ r. ⌜ ofTrust (now (s .entry)) r ≡ lockedFrom hashed (partOf (now (s .entry)) key) at (slice at end (now (s .entry))) ⌝ }
+    ensures is { λ r. ⌜ ofTrust r ≡ lockedFrom hashed (placeAt (key .start) (key .len)) at (slice at end (now (s .entry))) ⌝ }
     ensures inside { λ r. ⌜ RootAt end hashed r ⌝ }
 {
     match read_boolean(s, at, end) {
@@ -99,7 +99,7 @@ fn read_locked(s: &[u8], at: usize, end: usize, hashed: bool, key: Part) -> Root
 // The key, and what follows it.
 fn read_trust(s: &[u8], at: usize, end: usize, hashed: bool) -> Root
     requires { ⌜ end ≤ length (now s) ⌝ }
-    ensures is { λ r. ⌜ ofTrust (now (s .entry)) r ≡ trustFrom hashed at (slice at end (now (s .entry))) ⌝ }
+    ensures is { λ r. ⌜ ofTrust r ≡ trustFrom hashed at (slice at end (now (s .entry))) ⌝ }
     ensures inside { λ r. ⌜ RootAt end hashed r ⌝ }
 {
     match read_octets(s, at, end) {
@@ -111,7 +111,7 @@ fn read_trust(s: &[u8], at: usize, end: usize, hashed: bool) -> Root
 // A SEQUENCE of them; hashed says whether the version has a boot hash.
 pub(crate) fn read_root(s: &[u8], at: usize, end: usize, hashed: bool) -> Root
     requires { ⌜ end ≤ length (now s) ⌝ }
-    ensures is { λ r. ⌜ ofRoot (now (s .entry)) end r ≡ readRoot hashed at (slice at end (now (s .entry))) ⌝ }
+    ensures is { λ r. ⌜ ofRoot (now (s .entry)) end r ≡ readRoot asPlace hashed at (slice at end (now (s .entry))) ⌝ }
     ensures inside { λ r. ⌜ RootInside at end hashed r ⌝ }
 {
     match open_tagged(s, at, end, 1, 16) {

@@ -12,7 +12,7 @@ ghost use lib.ListN.{length};
 ghost use lib.Seq.{slice};
 ghost use Rattle.schema.specs.Decode.{readSet};
 ghost use Rattle.reader.specs.Set.{ofMembers, ofSet, membersFrom, StepAt, StepInside};
-ghost use Rattle.reader.specs.Empty.{emptySet};
+ghost use Rattle.records.specs.Empty.{emptySet};
 ghost use Rattle.reader.specs.Inside.{StepSlots};
 
 // The next place; or a refusal with its place.

@@ -13,11 +13,11 @@ use Rattle.answer.specs.Answer.{pick}
 use Rattle.answer.proofs.Logic.{and-left, and-right, and-both, by-le}
 use Rattle.codec.specs.Element.{chainGood}
 use Rattle.schema.specs.Table.{Kind, set, number32, number64, null, octets, root, rowAt, knownVersion, heldIn, levelTop, hashed, top32}
-use Rattle.schema.specs.Content.{Field, field, memberGood, afterMember, hashGood, valueGood, rowGood, fieldGood, afterField, listGood, wellShaped}
+use Rattle.schema.specs.Content.{FieldWith, field, memberGood, afterMember, hashGood, valueGood, rowGood, fieldGood, afterField, listGood, wellShaped}
 use Rattle.records.specs.declared.NumberSet.{NumberSet}
 use Rattle.records.specs.declared.FieldList.{FieldList}
 use Rattle.records.specs.declared.Record.{Record}
-use Rattle.records.specs.Content.{setAt, membersOf, valueAt, fieldAt, upTo, fieldsOf, contentOf}
+use Rattle.records.specs.Content.{setAt, membersOf, valueAt, fieldAt, upTo, fieldsOf, contentWith}
 use Rattle.records.specs.Rows.{allBelow}
 use Rattle.records.specs.Shape.{memberShaped, setShaped, same, rootShaped, valueShaped, rowShaped, listShaped, headShaped, wellShapedRecord}
 use Rattle.records.specs.Slots.{SetInSlots, InSlots}
@@ -87,62 +87,62 @@ set-in-slots l n i =
 
 -- ---- values
 
-hash-shaped : (a b : Bool) (bs : List ℕ) → T (hashGood b (pick a (some bs) none)) → T (same a b)
+hash-shaped : {O : Type 0} (a b : Bool) (bs : O) → T (hashGood b (pick a (some bs) none)) → T (same a b)
 unfolding hashGood pick
 hash-shaped true true bs t = tt
 hash-shaped true false bs t = t
 hash-shaped false true bs t = t
 hash-shaped false false bs t = tt
 
-value-shaped : (v : ℕ) (l : FieldList) (s : List ℕ) (n k : ℕ) (d : Kind) → InSlots l → T (valueGood v d (valueAt l s n d k)) → T (valueShaped v d (getD (l .values) k 0) (setAt l n) (l .root))
-unfolding valueShaped valueGood valueAt rootShaped
-value-shaped v l s n k set i t = set-shaped (setAt l n) (set-in-slots l n i) t
-value-shaped v l s n k number32 i t = t
-value-shaped v l s n k number64 i t = t
-value-shaped v l s n k null i t = tt
-value-shaped v l s n k octets i t = tt
-value-shaped v l s n k root i t =
+value-shaped : {O : Type 0} (v : ℕ) (l : FieldList) (part : ℕ → ℕ → O) (n k : ℕ) (d : Kind) → InSlots l → T (valueGood v d (valueAt l part n d k)) → T (valueShaped v d (getD (l .values) k 0) (setAt l n) (l .root))
+unfolding valueShaped valueGood valueAt rootShaped pick
+value-shaped v l part n k set i t = set-shaped (setAt l n) (set-in-slots l n i) t
+value-shaped v l part n k number32 i t = t
+value-shaped v l part n k number64 i t = t
+value-shaped v l part n k null i t = tt
+value-shaped v l part n k octets i t = tt
+value-shaped v l part n k root i t =
     let r = l .root in
     and-both (leb (r .state) 3) _ (and-left (leb (r .state) 3) _ t)
-    (hash-shaped (r .hashed) (hashed v) (take (r .hash .len) (drop (r .hash .start) s)) (and-right (leb (r .state) 3) _ t))
+    (hash-shaped (r .hashed) (hashed v) (part (r .hash .start) (r .hash .len)) (and-right (leb (r .state) 3) _ t))
 
 -- ---- rows
 
 -- each part of a list in order is in order, from some number on
-parted : (v low : ℕ) (xs ys : List Field) → T (chainGood (fieldGood v) afterField low (xs ++ ys)) → T (chainGood (fieldGood v) afterField low xs) × ((m : ℕ) × T (chainGood (fieldGood v) afterField m ys))
+parted : {O : Type 0} (v low : ℕ) (xs ys : List (FieldWith O)) → T (chainGood (fieldGood v) afterField low (xs ++ ys)) → T (chainGood (fieldGood v) afterField low xs) × ((m : ℕ) × T (chainGood (fieldGood v) afterField m ys))
 parted v low [] ys t = (tt, (low, t))
 parted v low (x ∷ xs) ys t =
     let p = parted v (x .number + 1) xs ys (and-right (fieldGood v low x) _ t) in
     (and-both (fieldGood v low x) _ (and-left (fieldGood v low x) _ t) (p .0), p .1)
 
-module _ (v : ℕ) (l : FieldList) (s : List ℕ) (i : InSlots l) where
-  row-shaped : (k low : ℕ) → k < 42 → (b : Bool) → T (chainGood (fieldGood v) afterField low (pick b (field (rowAt k .number) (valueAt l s (rowAt k .number) (rowAt k .kind) k) ∷ []) []))
+module _ {O : Type 0} (v : ℕ) (l : FieldList) (part : ℕ → ℕ → O) (i : InSlots l) where
+  row-shaped : (k low : ℕ) → k < 42 → (b : Bool) → T (chainGood (fieldGood v) afterField low (pick b (field (rowAt k .number) (valueAt l part (rowAt k .number) (rowAt k .kind) k) ∷ []) []))
       → T (pick b (heldIn v (rowAt k) && valueShaped v (rowAt k .kind) (getD (l .values) k 0) (setAt l (rowAt k .number)) (l .root)) true)
   unfolding pick fieldGood rowGood
   row-shaped k low h true t =
-      let f = field (rowAt k .number) (valueAt l s (rowAt k .number) (rowAt k .kind) k) in
+      let f = field (rowAt k .number) (valueAt l part (rowAt k .number) (rowAt k .kind) k) in
       let u = and-right (leb low (rowAt k .number)) _ (and-left (fieldGood v low f) true t) in
       let w : T (heldIn v (rowAt k) && valueGood v (rowAt k .kind) (f .value)) = rw (row-found k h) at u in
-      and-both (heldIn v (rowAt k)) _ (and-left (heldIn v (rowAt k)) _ w) (value-shaped v l s (rowAt k .number) k (rowAt k .kind) i (and-right (heldIn v (rowAt k)) _ w))
+      and-both (heldIn v (rowAt k)) _ (and-left (heldIn v (rowAt k)) _ w) (value-shaped v l part (rowAt k .number) k (rowAt k .kind) i (and-right (heldIn v (rowAt k)) _ w))
   row-shaped k low h false t = tt
 
-  rows-shaped : (n : ℕ) → n ≤ 42 → T (chainGood (fieldGood v) afterField 0 (upTo (fieldAt l s) n)) → (k : ℕ) → k < n → rowShaped v l k ≡ true
+  rows-shaped : (n : ℕ) → n ≤ 42 → T (chainGood (fieldGood v) afterField 0 (upTo (fieldAt l part) n)) → (k : ℕ) → k < n → rowShaped v l k ≡ true
   unfolding upTo fieldAt rowShaped
   rows-shaped zero h t k g = absurd (omega arith)
   rows-shaped (suc n) h t k g =
-      let p = parted v 0 (upTo (fieldAt l s) n) (fieldAt l s n) t in
+      let p = parted v 0 (upTo (fieldAt l part) n) (fieldAt l part n) t in
       by-le n k
       (λ q. let z : k ≡ n = omega arith in rw z (is-true _ (row-shaped n (p .1 .0) h (getD (l .present) n false) (p .1 .1))))
       (λ q. rows-shaped n (omega arith) (p .0) k q)
 
-  list-shaped : T (listGood v (fieldsOf l s)) → T (listShaped v l)
+  list-shaped : T (listGood v (fieldsOf l part)) → T (listShaped v l)
   unfolding listShaped listGood
   list-shaped t = so _ (all-of (rowShaped v l) 42 (rows-shaped 42 (omega arith) t))
 
 -- a record whose sets are within their slots and that says a well-shaped content is well-shaped
-pub content-shaped : (r : Record) (s : List ℕ) → InSlots (r .software) → InSlots (r .hardware) → T (wellShaped (contentOf r s)) → T (wellShapedRecord r)
+pub content-shaped : {O : Type 0} (r : Record) (part : ℕ → ℕ → O) → InSlots (r .software) → InSlots (r .hardware) → T (wellShaped (contentWith part r)) → T (wellShapedRecord r)
 unfolding wellShapedRecord headShaped wellShaped
-content-shaped r s i j t =
+content-shaped r part i j t =
     let v = r .attestation .version in
     let t₁ = and-right (knownVersion v) _ t in
     let t₂ = and-right (leb (r .attestation .level) (levelTop v)) _ t₁ in
@@ -153,5 +153,5 @@ content-shaped r s i j t =
     (and-both (leb (r .keymint .version) top32) _ (and-left (leb (r .keymint .version) top32) _ t₂)
     (and-both (leb (r .attestation .level) (levelTop v)) _ (and-left (leb (r .attestation .level) (levelTop v)) _ t₁)
     (and-left (leb (r .keymint .level) (levelTop v)) _ t₃))))
-    (and-both (listShaped v (r .software)) _ (list-shaped v (r .software) s i (and-left (listGood v (fieldsOf (r .software) s)) _ t₄))
-    (list-shaped v (r .hardware) s j (and-right (listGood v (fieldsOf (r .software) s)) _ t₄)))
+    (and-both (listShaped v (r .software)) _ (list-shaped v (r .software) part i (and-left (listGood v (fieldsOf (r .software) part)) _ t₄))
+    (list-shaped v (r .hardware) part j (and-right (listGood v (fieldsOf (r .software) part)) _ t₄)))

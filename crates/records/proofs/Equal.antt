@@ -11,7 +11,7 @@ use Rattle.schema.specs.Table.{rowAt}
 use Rattle.schema.specs.Content.{Value, Field, field, Content}
 use Rattle.records.specs.declared.FieldList.{FieldList}
 use Rattle.records.specs.declared.Record.{Record}
-use Rattle.records.specs.Content.{fieldAt, upTo, fieldsOf, contentOf}
+use Rattle.records.specs.Content.{octetsAt, fieldAt, upTo, fieldsOf, contentOf}
 use Rattle.records.specs.Fields.{fieldValue}
 use Rattle.records.specs.Equal.{presentAt, contentAt, SameRow, SameFields, Equal}
 use Rattle.records.proofs.Fields.{row-value}
@@ -31,22 +31,22 @@ parted false true v w e = absurd (let z : _≡_ {A = ℕ} 0 1 = cc in omega arit
 parted false false v w e = (refl, λ h. absurd (true≢false (sym h)))
 
 module _ (l : FieldList) (s : List ℕ) (l′ : FieldList) (s′ : List ℕ) where
-  row-fields : (k : ℕ) → SameRow l s l′ s′ k → fieldAt l s k ≡ fieldAt l′ s′ k
+  row-fields : (k : ℕ) → SameRow l s l′ s′ k → fieldAt l (octetsAt s) k ≡ fieldAt l′ (octetsAt s′) k
   unfolding fieldAt
   row-fields k e = joined (presentAt l k) (presentAt l′ k) (contentAt l s k) (contentAt l′ s′ k) (rowAt k .number) (e .held) (e .says)
 
-  rows-fields : (n : ℕ) → ((k : ℕ) → k < n → SameRow l s l′ s′ k) → upTo (fieldAt l s) n ≡ upTo (fieldAt l′ s′) n
+  rows-fields : (n : ℕ) → ((k : ℕ) → k < n → SameRow l s l′ s′ k) → upTo (fieldAt l (octetsAt s)) n ≡ upTo (fieldAt l′ (octetsAt s′)) n
   unfolding upTo
   rows-fields zero e = refl
   rows-fields (suc n) e = rw (rows-fields n (λ k h. e k (omega arith)), row-fields n (e n (omega arith))) refl
 
   -- lists that hold the same rows say the same fields, and the other way
-  pub same-fields : SameFields l s l′ s′ → fieldsOf l s ≡ fieldsOf l′ s′
+  pub same-fields : SameFields l s l′ s′ → fieldsOf l (octetsAt s) ≡ fieldsOf l′ (octetsAt s′)
   same-fields e = rows-fields 42 e
 
-  pub fields-same : fieldsOf l s ≡ fieldsOf l′ s′ → SameFields l s l′ s′
+  pub fields-same : fieldsOf l (octetsAt s) ≡ fieldsOf l′ (octetsAt s′) → SameFields l s l′ s′
   fields-same e k h =
-      let q = parted (presentAt l k) (presentAt l′ k) (contentAt l s k) (contentAt l′ s′ k) (sym (row-value l s k h) ∙ (ap (λ (fs : List Field). fieldValue fs (rowAt k .number)) e ∙ row-value l′ s′ k h)) in
+      let q = parted (presentAt l k) (presentAt l′ k) (contentAt l s k) (contentAt l′ s′ k) (sym (row-value l (octetsAt s) k h) ∙ (ap (λ (fs : List Field). fieldValue fs (rowAt k .number)) e ∙ row-value l′ (octetsAt s′) k h)) in
       record { held = q .0; says = q .1 }
 
 module _ (r : Record) (s : List ℕ) (r′ : Record) (s′ : List ℕ) where

@@ -12,7 +12,7 @@ use borrow.Author.Tests.{eq-eqb, ne-eqb}
 use Rattle.answer.specs.Answer.{pick}
 use Rattle.answer.proofs.Logic.{by-le}
 use Rattle.schema.specs.Table.{Row, row, null, rows, rowAt, indexOf, find}
-use Rattle.schema.specs.Content.{Value, Field, field}
+use Rattle.schema.specs.Content.{ValueWith, FieldWith, field}
 use Rattle.schema.proofs.Table.{above, find-place}
 use Rattle.records.specs.declared.FieldList.{FieldList}
 use Rattle.records.specs.Content.{valueAt, fieldAt, upTo, fieldsOf}
@@ -48,7 +48,7 @@ row-found k h =
 
 -- ---- looking up
 
-left-none : (xs ys : List Field) (n : ℕ) → fieldValue xs n ≡ none → fieldValue (xs ++ ys) n ≡ fieldValue ys n
+left-none : {O : Type 0} (xs ys : List (FieldWith O)) (n : ℕ) → fieldValue xs n ≡ none → fieldValue (xs ++ ys) n ≡ fieldValue ys n
 unfolding fieldValue pick
 left-none [] ys n e = refl
 left-none (f ∷ fs) ys n e = go (eqb (f .number) n) e (left-none fs ys n)
@@ -57,52 +57,52 @@ left-none (f ∷ fs) ys n e = go (eqb (f .number) n) e (left-none fs ys n)
     go true e i = absurd (let z : _≡_ {A = ℕ} 0 1 = cc in omega arith)
     go false e i = i e
 
-right-none : (xs ys : List Field) (n : ℕ) → fieldValue ys n ≡ none → fieldValue (xs ++ ys) n ≡ fieldValue xs n
+right-none : {O : Type 0} (xs ys : List (FieldWith O)) (n : ℕ) → fieldValue ys n ≡ none → fieldValue (xs ++ ys) n ≡ fieldValue xs n
 unfolding fieldValue
 right-none [] ys n e = e
 right-none (f ∷ fs) ys n e = rw (right-none fs ys n e) refl
 
-module _ (l : FieldList) (s : List ℕ) where
-  one-row : (k n : ℕ) → (rowAt k .number ≡ n → ⊥) → fieldValue (fieldAt l s k) n ≡ none
+module _ {O : Type 0} (l : FieldList) (part : ℕ → ℕ → O) where
+  one-row : (k n : ℕ) → (rowAt k .number ≡ n → ⊥) → fieldValue (fieldAt l part k) n ≡ none
   unfolding fieldValue fieldAt pick
   one-row k n h = go (getD (l .present) k false)
     where
-      v : Value
-      v = valueAt l s (rowAt k .number) (rowAt k .kind) k
+      v : ValueWith O
+      v = valueAt l part (rowAt k .number) (rowAt k .kind) k
 
       go : (b : Bool) → fieldValue (pick b (field (rowAt k .number) v ∷ []) []) n ≡ none
       go true = rw (ne-eqb (rowAt k .number) n h) refl
       go false = refl
 
-  own-row : (k : ℕ) → fieldValue (fieldAt l s k) (rowAt k .number) ≡ pick (getD (l .present) k false) (some (valueAt l s (rowAt k .number) (rowAt k .kind) k)) none
+  own-row : (k : ℕ) → fieldValue (fieldAt l part k) (rowAt k .number) ≡ pick (getD (l .present) k false) (some (valueAt l part (rowAt k .number) (rowAt k .kind) k)) none
   unfolding fieldValue fieldAt pick
   own-row k = go (getD (l .present) k false)
     where
-      v : Value
-      v = valueAt l s (rowAt k .number) (rowAt k .kind) k
+      v : ValueWith O
+      v = valueAt l part (rowAt k .number) (rowAt k .kind) k
 
       go : (b : Bool) → fieldValue (pick b (field (rowAt k .number) v ∷ []) []) (rowAt k .number) ≡ pick b (some v) none
       go true = rw (eq-eqb (rowAt k .number) (rowAt k .number) refl) refl
       go false = refl
 
   -- a number that no row so far has
-  pub no-row-has : (m n : ℕ) → ((k : ℕ) → k < m → rowAt k .number ≡ n → ⊥) → fieldValue (upTo (fieldAt l s) m) n ≡ none
+  pub no-row-has : (m n : ℕ) → ((k : ℕ) → k < m → rowAt k .number ≡ n → ⊥) → fieldValue (upTo (fieldAt l part) m) n ≡ none
   unfolding upTo fieldValue
   no-row-has zero n h = refl
   no-row-has (suc m) n h =
-      left-none (upTo (fieldAt l s) m) (fieldAt l s m) n (no-row-has m n (λ k g. h k (omega arith)))
+      left-none (upTo (fieldAt l part) m) (fieldAt l part m) n (no-row-has m n (λ k g. h k (omega arith)))
       ∙ one-row m n (h m (omega arith))
 
-  row-of-some : (m k : ℕ) → k < m → m ≤ 42 → fieldValue (upTo (fieldAt l s) m) (rowAt k .number) ≡ fieldValue (fieldAt l s k) (rowAt k .number)
+  row-of-some : (m k : ℕ) → k < m → m ≤ 42 → fieldValue (upTo (fieldAt l part) m) (rowAt k .number) ≡ fieldValue (fieldAt l part k) (rowAt k .number)
   unfolding upTo
   row-of-some zero k h g = absurd (omega arith)
   row-of-some (suc m) k h g =
       by-le m k
       (λ o. let e : m ≡ k = omega arith in
-      rw e (left-none (upTo (fieldAt l s) k) (fieldAt l s k) (rowAt k .number) (no-row-has k (rowAt k .number) (λ j i. rows-differ j k (omega arith) (omega arith) (λ z. omega arith)))))
-      (λ o. right-none (upTo (fieldAt l s) m) (fieldAt l s m) (rowAt k .number) (one-row m (rowAt k .number) (rows-differ m k (omega arith) (omega arith) (λ z. omega arith)))
+      rw e (left-none (upTo (fieldAt l part) k) (fieldAt l part k) (rowAt k .number) (no-row-has k (rowAt k .number) (λ j i. rows-differ j k (omega arith) (omega arith) (λ z. omega arith)))))
+      (λ o. right-none (upTo (fieldAt l part) m) (fieldAt l part m) (rowAt k .number) (one-row m (rowAt k .number) (rows-differ m k (omega arith) (omega arith) (λ z. omega arith)))
       ∙ row-of-some m k o (omega arith))
 
   -- the value of a row's number is the row's
-  pub row-value : (k : ℕ) → k < 42 → fieldValue (fieldsOf l s) (rowAt k .number) ≡ pick (getD (l .present) k false) (some (valueAt l s (rowAt k .number) (rowAt k .kind) k)) none
+  pub row-value : (k : ℕ) → k < 42 → fieldValue (fieldsOf l part) (rowAt k .number) ≡ pick (getD (l .present) k false) (some (valueAt l part (rowAt k .number) (rowAt k .kind) k)) none
   row-value k h = row-of-some 42 k h (omega arith) ∙ own-row k

@@ -9,3 +9,5 @@ pub mod Shapes
 pub mod ShapedContent
 pub mod ContentShaped
 pub mod Equal
+pub mod PlacesRead
+pub mod Made

@@ -27,12 +27,12 @@ number-at : (n : ℕ) → indexOf rows n < 42 → rowAt (indexOf rows n) .number
 unfolding rows
 number-at n h = find-place rows n (row 0 null 1 0) h .1
 
-module _ (l : FieldList) (s : List ℕ) (len : ℕ) where
-  its-value : (k a z : ℕ) → k < 42 → askedAt l k len ≡ got (some (a, z)) → fieldValue (fieldsOf l s) (rowAt k .number) ≡ some (oct (octetsAt s a z))
+module _ {O : Type 0} (l : FieldList) (part : ℕ → ℕ → O) (len : ℕ) where
+  its-value : (k a z : ℕ) → k < 42 → askedAt l k len ≡ got (some (a, z)) → fieldValue (fieldsOf l part) (rowAt k .number) ≡ some (oct (part a z))
   unfolding askedAt valueAt pick
   its-value k a z h e =
       let q = asked-held (rowAt k .kind) (getD (l .present) k false) (getD (l .values) k 0) (getD (l .sizes) k 0) len a z e in
-      row-value l s k h ∙ rw (q .there, q .kind, q .starts, q .sized) refl
+      row-value l part k h ∙ rw (q .there, q .kind, q .starts, q .sized) refl
 
   in-table : (k a z : ℕ) → askedAt l k len ≡ got (some (a, z)) → k < 42
   unfolding askedAt rows
@@ -45,7 +45,7 @@ module _ (l : FieldList) (s : List ℕ) (len : ℕ) where
       other : null ≡ octets → ⊥
       other f = let z : _≡_ {A = ℕ} 0 1 = cc in omega arith
 
-  no-value : (k : Kind) (p : Bool) (n : ℕ) (j start size : ℕ) (bs : List ℕ) → askedOf k p start size len ≡ got none → pick p (some (valueAt l s n k j)) none ≡ some (oct bs) → ⊥
+  no-value : (k : Kind) (p : Bool) (n : ℕ) (j start size : ℕ) (bs : O) → askedOf k p start size len ≡ got none → pick p (some (valueAt l part n k j)) none ≡ some (oct bs) → ⊥
   unfolding askedOf valueAt guard pick
   no-value k false n j start size bs e f = let z : _≡_ {A = ℕ} 0 1 = cc in omega arith
   no-value set true n j start size bs e f = let z : _≡_ {A = ℕ} 0 1 = cc in omega arith
@@ -59,28 +59,28 @@ module _ (l : FieldList) (s : List ℕ) (len : ℕ) where
       go false e = refused-got e
   no-value root true n j start size bs e f = let z : _≡_ {A = ℕ} 0 1 = cc in omega arith
 
-module _ (r : Record) (hardware : Bool) (number : ℕ) (s : List ℕ) (len : ℕ) where
+module _ {O : Type 0} (r : Record) (hardware : Bool) (number : ℕ) (part : ℕ → ℕ → O) (len : ℕ) where
   -- the part's octets are the field's
-  pub asked-content : (a z : ℕ) → askedOctets r hardware number len ≡ got (some (a, z)) → fieldValue (fieldsOf (listOf r hardware) s) number ≡ some (oct (octetsAt s a z))
+  pub asked-content : (a z : ℕ) → askedOctets r hardware number len ≡ got (some (a, z)) → fieldValue (fieldsOf (listOf r hardware) part) number ≡ some (oct (part a z))
   unfolding askedOctets
   asked-content a z e =
       let l = listOf r hardware in
       let k = indexOf rows number in
-      let h = in-table l s len k a z e in
-      rw (number-at number h) at (its-value l s len k a z h e)
+      let h = in-table l part len k a z e in
+      rw (number-at number h) at (its-value l part len k a z h e)
 
   -- where absent is answered the list has no octet field of this number
-  pub asked-absent : (bs : List ℕ) → askedOctets r hardware number len ≡ got none → fieldValue (fieldsOf (listOf r hardware) s) number ≡ some (oct bs) → ⊥
+  pub asked-absent : (bs : O) → askedOctets r hardware number len ≡ got none → fieldValue (fieldsOf (listOf r hardware) part) number ≡ some (oct bs) → ⊥
   unfolding askedOctets askedAt rows
   asked-absent bs e f =
       let l = listOf r hardware in
       let k = indexOf rows number in
       by-le 42 k
-      (λ h. let g = no-row-has l s 42 number (λ j i n. absurd (omega (arith, rw n at (place-below rows (row 0 null 1 0) j i)))) in
+      (λ h. let g = no-row-has l part 42 number (λ j i n. absurd (omega (arith, rw n at (place-below rows (row 0 null 1 0) j i)))) in
       absurd (let z : _≡_ {A = ℕ} 0 1 = cc in omega arith))
-      (λ h. no-value l s len (rowAt k .kind) (getD (l .present) k false) (rowAt k .number) k (getD (l .values) k 0) (getD (l .sizes) k 0) bs e
-      (sym (row-value l s k h) ∙ rw (number-at number h) f))
+      (λ h. no-value l part len (rowAt k .kind) (getD (l .present) k false) (rowAt k .number) k (getD (l .values) k 0) (getD (l .sizes) k 0) bs e
+      (sym (row-value l part k h) ∙ rw (number-at number h) f))
 
 -- what `octet_field` hands back is the field's octets
-pub field-octets : (s : List ℕ) (r : Record) (hardware : Bool) (number a z : ℕ) → askedOctets r hardware number (length s) ≡ got (some (a, z)) → fieldValue (fieldsOf (listOf r hardware) s) number ≡ some (oct (octetFieldOf s r hardware number))
-field-octets s r hardware number a z e = asked-content r hardware number s (length s) a z e ∙ rw e refl
+pub field-octets : (s : List ℕ) (r : Record) (hardware : Bool) (number a z : ℕ) → askedOctets r hardware number (length s) ≡ got (some (a, z)) → fieldValue (fieldsOf (listOf r hardware) (octetsAt s)) number ≡ some (oct (octetFieldOf s r hardware number))
+field-octets s r hardware number a z e = asked-content r hardware number (octetsAt s) (length s) a z e ∙ rw e refl

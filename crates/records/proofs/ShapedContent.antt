@@ -12,12 +12,12 @@ use Rattle.answer.specs.Answer.{pick}
 use Rattle.answer.proofs.Logic.{and-left, and-right, and-both}
 use Rattle.codec.specs.Element.{chainGood}
 use Rattle.schema.specs.Table.{Kind, set, number32, number64, null, octets, root, rowAt, knownVersion, heldIn, levelTop, hashed, top32}
-use Rattle.schema.specs.Content.{Field, field, memberGood, afterMember, hashGood, valueGood, rowGood, fieldGood, afterField, listGood, wellShaped}
+use Rattle.schema.specs.Content.{FieldWith, field, memberGood, afterMember, hashGood, valueGood, rowGood, fieldGood, afterField, listGood, wellShaped}
 use Rattle.schema.proofs.Table.{above}
 use Rattle.records.specs.declared.NumberSet.{NumberSet}
 use Rattle.records.specs.declared.FieldList.{FieldList}
 use Rattle.records.specs.declared.Record.{Record}
-use Rattle.records.specs.Content.{setAt, membersOf, valueAt, fieldAt, upTo, fieldsOf, contentOf}
+use Rattle.records.specs.Content.{setAt, membersOf, valueAt, fieldAt, upTo, fieldsOf, contentWith}
 use Rattle.records.specs.Rows.{allBelow}
 use Rattle.records.specs.Shape.{memberShaped, setShaped, same, rootShaped, valueShaped, rowShaped, listShaped, headShaped, wellShapedRecord}
 use Rattle.records.proofs.Rowwise.{all-at}
@@ -62,35 +62,35 @@ set-good g t =
 
 -- ---- values
 
-hash-good : (a b : Bool) (bs : List ℕ) → T (same a b) → T (hashGood b (pick a (some bs) none))
+hash-good : {O : Type 0} (a b : Bool) (bs : O) → T (same a b) → T (hashGood b (pick a (some bs) none))
 unfolding hashGood pick
 hash-good true true bs t = tt
 hash-good true false bs t = t
 hash-good false true bs t = t
 hash-good false false bs t = tt
 
-value-good : (v : ℕ) (l : FieldList) (s : List ℕ) (n k : ℕ) (d : Kind) → T (valueShaped v d (getD (l .values) k 0) (setAt l n) (l .root)) → T (valueGood v d (valueAt l s n d k))
-unfolding valueShaped valueGood valueAt rootShaped
-value-good v l s n k set t = set-good (setAt l n) t
-value-good v l s n k number32 t = t
-value-good v l s n k number64 t = t
-value-good v l s n k null t = tt
-value-good v l s n k octets t = tt
-value-good v l s n k root t =
+value-good : {O : Type 0} (v : ℕ) (l : FieldList) (part : ℕ → ℕ → O) (n k : ℕ) (d : Kind) → T (valueShaped v d (getD (l .values) k 0) (setAt l n) (l .root)) → T (valueGood v d (valueAt l part n d k))
+unfolding valueShaped valueGood valueAt rootShaped pick
+value-good v l part n k set t = set-good (setAt l n) t
+value-good v l part n k number32 t = t
+value-good v l part n k number64 t = t
+value-good v l part n k null t = tt
+value-good v l part n k octets t = tt
+value-good v l part n k root t =
     let r = l .root in
     and-both (leb (r .state) 3) _ (and-left (leb (r .state) 3) _ t)
-    (hash-good (r .hashed) (hashed v) (take (r .hash .len) (drop (r .hash .start) s)) (and-right (leb (r .state) 3) _ t))
+    (hash-good (r .hashed) (hashed v) (part (r .hash .start) (r .hash .len)) (and-right (leb (r .state) 3) _ t))
 
 -- ---- fields in order
 
 -- the least number that may follow
-abbrev leastAfter : ℕ → List Field → ℕ
+abbrev leastAfter : {O : Type 0} → ℕ → List (FieldWith O) → ℕ
 leastAfter low [] = low
 leastAfter low (f ∷ fs) = leastAfter (f .number + 1) fs
 
 -- one more field at the end, or none
-module _ (v : ℕ) (b : Bool) (f : Field) where
-  more : (low : ℕ) (xs : List Field) → T (chainGood (fieldGood v) afterField low xs) → (b ≡ true → T (fieldGood v (leastAfter low xs) f)) → T (chainGood (fieldGood v) afterField low (xs ++ pick b (f ∷ []) []))
+module _ {O : Type 0} (v : ℕ) (b : Bool) (f : FieldWith O) where
+  more : (low : ℕ) (xs : List (FieldWith O)) → T (chainGood (fieldGood v) afterField low xs) → (b ≡ true → T (fieldGood v (leastAfter low xs) f)) → T (chainGood (fieldGood v) afterField low (xs ++ pick b (f ∷ []) []))
   unfolding pick
   more low [] t g = first b g
     where
@@ -101,7 +101,7 @@ module _ (v : ℕ) (b : Bool) (f : Field) where
       and-both (fieldGood v low x) _ (and-left (fieldGood v low x) _ t)
       (more (x .number + 1) xs (and-right (fieldGood v low x) _ t) g)
 
-  after-more : (low : ℕ) (xs : List Field) → leastAfter low (xs ++ pick b (f ∷ []) []) ≡ pick b (f .number + 1) (leastAfter low xs)
+  after-more : (low : ℕ) (xs : List (FieldWith O)) → leastAfter low (xs ++ pick b (f ∷ []) []) ≡ pick b (f .number + 1) (leastAfter low xs)
   unfolding pick
   after-more low [] = one b
     where
@@ -110,19 +110,19 @@ module _ (v : ℕ) (b : Bool) (f : Field) where
       one false = refl
   after-more low (x ∷ xs) = after-more (x .number + 1) xs
 
-module _ (v : ℕ) (l : FieldList) (s : List ℕ) where
-  field-good : (k low : ℕ) → k < 42 → T (rowShaped v l k) → getD (l .present) k false ≡ true → low ≤ rowAt k .number → T (fieldGood v low (field (rowAt k .number) (valueAt l s (rowAt k .number) (rowAt k .kind) k)))
+module _ {O : Type 0} (v : ℕ) (l : FieldList) (part : ℕ → ℕ → O) where
+  field-good : (k low : ℕ) → k < 42 → T (rowShaped v l k) → getD (l .present) k false ≡ true → low ≤ rowAt k .number → T (fieldGood v low (field (rowAt k .number) (valueAt l part (rowAt k .number) (rowAt k .kind) k)))
   unfolding fieldGood rowGood rowShaped pick
   field-good k low h t e g =
       let u : T (heldIn v (rowAt k) && valueShaped v (rowAt k .kind) (getD (l .values) k 0) (setAt l (rowAt k .number)) (l .root)) = rw e at t in
       rw (row-found k h)
       (and-both (leb low (rowAt k .number)) _ (le→leb low (rowAt k .number) g)
-      (and-both (heldIn v (rowAt k)) _ (and-left (heldIn v (rowAt k)) _ u) (value-good v l s (rowAt k .number) k (rowAt k .kind) (and-right (heldIn v (rowAt k)) _ u))))
+      (and-both (heldIn v (rowAt k)) _ (and-left (heldIn v (rowAt k)) _ u) (value-good v l part (rowAt k .number) k (rowAt k .kind) (and-right (heldIn v (rowAt k)) _ u))))
 
   -- the first n rows: in order, and below every row that follows
   record Rows (n : ℕ) : Type 0 where
-    good : T (chainGood (fieldGood v) afterField 0 (upTo (fieldAt l s) n))
-    low : (k : ℕ) → n ≤ k → k < 42 → leastAfter 0 (upTo (fieldAt l s) n) ≤ rowAt k .number
+    good : T (chainGood (fieldGood v) afterField 0 (upTo (fieldAt l part) n))
+    low : (k : ℕ) → n ≤ k → k < 42 → leastAfter 0 (upTo (fieldAt l part) n) ≤ rowAt k .number
 
   next-low : (b : Bool) (n low k : ℕ) → low ≤ rowAt n .number → n < k → k < 42 → pick b (rowAt n .number + 1) low ≤ rowAt k .number
   unfolding pick
@@ -134,22 +134,22 @@ module _ (v : ℕ) (l : FieldList) (s : List ℕ) where
   rows-good e zero h = record { good = tt; low = λ k i g. omega arith }
   rows-good e (suc n) h =
       let p = rows-good e n (omega arith) in
-      let x = field (rowAt n .number) (valueAt l s (rowAt n .number) (rowAt n .kind) n) in
+      let x = field (rowAt n .number) (valueAt l part (rowAt n .number) (rowAt n .kind) n) in
       let b = getD (l .present) n false in
-      let xs = upTo (fieldAt l s) n in
+      let xs = upTo (fieldAt l part) n in
       record {
         good = more v b x 0 xs (p .good) (λ q. field-good n (leastAfter 0 xs) h (so _ (all-at (rowShaped v l) 42 n h e)) q (p .low n (omega arith) h));
         low = λ k i g. rw (after-more v b x 0 xs) (next-low b n (leastAfter 0 xs) k (p .low n (omega arith) h) i g);
       }
 
-  list-good : T (listShaped v l) → T (listGood v (fieldsOf l s))
+  list-good : T (listShaped v l) → T (listGood v (fieldsOf l part))
   unfolding listShaped listGood
   list-good t = rows-good (is-true (allBelow (rowShaped v l) 42) t) 42 (omega arith) .good
 
 -- what a well-shaped record says is well-shaped
-pub shaped-content : (r : Record) (s : List ℕ) → T (wellShapedRecord r) → T (wellShaped (contentOf r s))
+pub shaped-content : {O : Type 0} (r : Record) (part : ℕ → ℕ → O) → T (wellShapedRecord r) → T (wellShaped (contentWith part r))
 unfolding wellShapedRecord headShaped wellShaped
-shaped-content r s t =
+shaped-content r part t =
     let v = r .attestation .version in
     let h = and-left (headShaped v (r .attestation .level) (r .keymint .version) (r .keymint .level)) _ t in
     let q = and-right (headShaped v (r .attestation .level) (r .keymint .version) (r .keymint .level)) _ t in
@@ -159,5 +159,5 @@ shaped-content r s t =
     (and-both (leb (r .attestation .level) (levelTop v)) _ (and-left (leb (r .attestation .level) (levelTop v)) _ h₂)
     (and-both (leb (r .keymint .version) top32) _ (and-left (leb (r .keymint .version) top32) _ h₁)
     (and-both (leb (r .keymint .level) (levelTop v)) _ (and-right (leb (r .attestation .level) (levelTop v)) _ h₂)
-    (and-both (listGood v (fieldsOf (r .software) s)) _ (list-good v (r .software) s (and-left (listShaped v (r .software)) _ q))
-    (list-good v (r .hardware) s (and-right (listShaped v (r .software)) _ q))))))
+    (and-both (listGood v (fieldsOf (r .software) part)) _ (list-good v (r .software) part (and-left (listShaped v (r .software)) _ q))
+    (list-good v (r .hardware) part (and-right (listShaped v (r .software)) _ q))))))

@@ -1,5 +1,6 @@
--- What a record and its buffer say: places become octets; absent fields, spare slots and the hash that is not there are
--- dropped (document 01, "KeyDescription", the paragraph on records).
+-- What a record says: absent fields, spare slots and the hash that is not there are dropped (document 01, "KeyDescription",
+-- the paragraph on records). What becomes of an octet part, given its start and length, is a parameter: `contentOf` takes the
+-- octets of a buffer there, `placesOf` leaves the part as a start and a length.
 use mathlib.Core.Bool.{Bool, true, false}
 use mathlib.Core.Option.{Option, none, some}
 use mathlib.Core.List.{List, [], _∷_, _++_}
@@ -7,8 +8,8 @@ use Prim.Native.Nat.{ℕ, zero, suc}
 use lib.ListN.{take, drop, getD}
 use lib.Dec.{eqb}
 use Rattle.answer.specs.Answer.{pick}
-use Rattle.schema.specs.Table.{Kind, set, number32, number64, null, octets, root, rowAt}
-use Rattle.schema.specs.Content.{Root, Value, num, nul, oct, nums, trust, Field, field, Content}
+use Rattle.schema.specs.Table.{Kind, set, number32, number64, null, octets, root, rowAt, rowCount}
+use Rattle.schema.specs.Content.{RootWith, ValueWith, num, nul, oct, nums, trust, FieldWith, field, ContentWith, Content, placeAt, Places}
 use Rattle.records.specs.declared.Part.{Part}
 use Rattle.records.specs.declared.NumberSet.{NumberSet}
 use Rattle.records.specs.declared.RootOfTrust.{RootOfTrust}
@@ -25,12 +26,12 @@ partOf s p = octetsAt s (p .start) (p .len)
 abbrev pub membersOf : NumberSet → List ℕ
 membersOf g = take (g .count) (g .members)
 
-abbrev pub rootOf : List ℕ → RootOfTrust → Root
-rootOf s r = record {
-  key = partOf s (r .key);
+abbrev pub rootOf : {O : Type 0} → (ℕ → ℕ → O) → RootOfTrust → RootWith O
+rootOf part r = record {
+  key = part (r .key .start) (r .key .len);
   locked = r .locked;
   state = r .state;
-  hash = pick (r .hashed) (some (partOf s (r .hash))) none;
+  hash = pick (r .hashed) (some (part (r .hash .start) (r .hash .len))) none;
 }
 
 -- the set of a row, by its number: 1 purpose, 5 digest, 6 padding, 203 mgfDigest
@@ -38,34 +39,41 @@ abbrev pub setAt : FieldList → ℕ → NumberSet
 setAt l n = pick (eqb n 1) (l .purpose) (pick (eqb n 5) (l .digest) (pick (eqb n 6) (l .padding) (l .mgf)))
 
 -- the value that row k has, were it present
-unfoldable pub valueAt : FieldList → List ℕ → ℕ → Kind → ℕ → Value
-valueAt l s n number32 k = num (getD (l .values) k 0)
-valueAt l s n number64 k = num (getD (l .values) k 0)
-valueAt l s n null k = nul
-valueAt l s n octets k = oct (octetsAt s (getD (l .values) k 0) (getD (l .sizes) k 0))
-valueAt l s n set k = nums (membersOf (setAt l n))
-valueAt l s n root k = trust (rootOf s (l .root))
+unfoldable pub valueAt : {O : Type 0} → FieldList → (ℕ → ℕ → O) → ℕ → Kind → ℕ → ValueWith O
+valueAt l part n number32 k = num (getD (l .values) k 0)
+valueAt l part n number64 k = num (getD (l .values) k 0)
+valueAt l part n null k = nul
+valueAt l part n octets k = oct (part (getD (l .values) k 0) (getD (l .sizes) k 0))
+valueAt l part n set k = nums (membersOf (setAt l n))
+valueAt l part n root k = trust (rootOf part (l .root))
 
 -- no field, or the one of row k
-unfoldable pub fieldAt : FieldList → List ℕ → ℕ → List Field
-fieldAt l s k = pick (getD (l .present) k false) (field (rowAt k .number) (valueAt l s (rowAt k .number) (rowAt k .kind) k) ∷ []) []
+unfoldable pub fieldAt : {O : Type 0} → FieldList → (ℕ → ℕ → O) → ℕ → List (FieldWith O)
+fieldAt l part k = pick (getD (l .present) k false) (field (rowAt k .number) (valueAt l part (rowAt k .number) (rowAt k .kind) k) ∷ []) []
 
-unfoldable pub upTo : (ℕ → List Field) → ℕ → List Field
+unfoldable pub upTo : {A : Type 0} → (ℕ → List A) → ℕ → List A
 upTo f zero = []
 upTo f (suc n) = upTo f n ++ f n
 
-abbrev pub fieldsOf : FieldList → List ℕ → List Field
-fieldsOf l s = upTo (fieldAt l s) 42
+abbrev pub fieldsOf : {O : Type 0} → FieldList → (ℕ → ℕ → O) → List (FieldWith O)
+fieldsOf l part = upTo (fieldAt l part) rowCount
 
--- what the record says, its octet parts lying in s
-abbrev pub contentOf : Record → List ℕ → Content
-contentOf r s = record {
+abbrev pub contentWith : {O : Type 0} → (ℕ → ℕ → O) → Record → ContentWith O
+contentWith part r = record {
   version = r .attestation .version;
   level = r .attestation .level;
   keymint = r .keymint .version;
   keymintLevel = r .keymint .level;
-  challenge = partOf s (r .challenge);
-  unique = partOf s (r .unique);
-  software = fieldsOf (r .software) s;
-  hardware = fieldsOf (r .hardware) s;
+  challenge = part (r .challenge .start) (r .challenge .len);
+  unique = part (r .unique .start) (r .unique .len);
+  software = fieldsOf (r .software) part;
+  hardware = fieldsOf (r .hardware) part;
 }
+
+-- what the record says, its octet parts lying in s
+abbrev pub contentOf : Record → List ℕ → Content
+contentOf r s = contentWith (octetsAt s) r
+
+-- what it says with each octet part as its start and length
+abbrev pub placesOf : Record → Places
+placesOf r = contentWith placeAt r

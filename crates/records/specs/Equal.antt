@@ -6,11 +6,11 @@ use mathlib.Core.Bool.{Bool, true, false}
 use mathlib.Core.List.{List}
 use Prim.Native.Nat.{ℕ, _<_}
 use lib.ListN.{getD}
-use Rattle.schema.specs.Table.{rowAt}
+use Rattle.schema.specs.Table.{rowAt, rowCount}
 use Rattle.schema.specs.Content.{Value}
 use Rattle.records.specs.declared.FieldList.{FieldList}
 use Rattle.records.specs.declared.Record.{Record}
-use Rattle.records.specs.Content.{partOf, valueAt}
+use Rattle.records.specs.Content.{octetsAt, partOf, valueAt}
 
 -- whether row k's field is present
 abbrev pub presentAt : FieldList → ℕ → Bool
@@ -18,7 +18,7 @@ presentAt l k = getD (l .present) k false
 
 -- what its field says, were it present
 abbrev pub contentAt : FieldList → List ℕ → ℕ → Value
-contentAt l s k = valueAt l s (rowAt k .number) (rowAt k .kind) k
+contentAt l s k = valueAt l (octetsAt s) (rowAt k .number) (rowAt k .kind) k
 
 -- "which fields each list holds and those fields' contents are the same"
 pub record SameRow (l : FieldList) (s : List ℕ) (l′ : FieldList) (s′ : List ℕ) (k : ℕ) : Type 0 where
@@ -27,7 +27,7 @@ pub record SameRow (l : FieldList) (s : List ℕ) (l′ : FieldList) (s′ : Lis
 
 -- every row of two lists
 abbrev pub SameFields : FieldList → List ℕ → FieldList → List ℕ → Type 0
-SameFields l s l′ s′ = (k : ℕ) → k < 42 → SameRow l s l′ s′ k
+SameFields l s l′ s′ = (k : ℕ) → k < rowCount → SameRow l s l′ s′ k
 
 -- "equal exactly when both versions, both levels, challenge, uniqueId" and the lists are the same
 pub record Equal (r : Record) (s : List ℕ) (r′ : Record) (s′ : List ℕ) : Type 0 where

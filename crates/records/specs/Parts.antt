@@ -5,7 +5,7 @@ use Prim.Native.Nat.{ℕ, _+_}
 use lib.ListN.{getD}
 use lib.Dec.{leb}
 use Rattle.answer.specs.Answer.{pick}
-use Rattle.schema.specs.Table.{Kind, set, number32, number64, null, octets, root, rowAt}
+use Rattle.schema.specs.Table.{Kind, set, number32, number64, null, octets, root, rowAt, rowCount}
 use Rattle.records.specs.Rows.{allBelow}
 use Rattle.records.specs.declared.Part.{Part}
 use Rattle.records.specs.declared.RootOfTrust.{RootOfTrust}
@@ -42,7 +42,7 @@ rowInside l len k =
 
 -- every row of a list
 unfoldable pub listInside : FieldList → ℕ → Bool
-listInside l len = allBelow (rowInside l len) 42
+listInside l len = allBelow (rowInside l len) rowCount
 
 -- "the challenge, the uniqueId and those of present fields"
 unfoldable pub partsInside : Record → ℕ → Bool

@@ -7,7 +7,7 @@ use Prim.Native.Nat.{ℕ, zero, suc}
 use lib.ListN.{getD}
 use lib.Dec.{leb, ltb}
 use Rattle.answer.specs.Answer.{pick}
-use Rattle.schema.specs.Table.{Kind, set, number32, number64, null, octets, root, rowAt, knownVersion, heldIn, levelTop, hashed, top32, top64}
+use Rattle.schema.specs.Table.{Kind, set, number32, number64, null, octets, root, rowAt, rowCount, knownVersion, heldIn, levelTop, hashed, top32, top64}
 use Rattle.records.specs.declared.NumberSet.{NumberSet}
 use Rattle.records.specs.declared.RootOfTrust.{RootOfTrust}
 use Rattle.records.specs.declared.FieldList.{FieldList}
@@ -51,7 +51,7 @@ rowShaped v l k =
 
 -- every row of a list
 unfoldable pub listShaped : ℕ → FieldList → Bool
-listShaped v l = allBelow (rowShaped v l) 42
+listShaped v l = allBelow (rowShaped v l) rowCount
 
 -- "its version is one of the seven, its KeyMint version and levels are within their tops"
 unfoldable pub headShaped : ℕ → ℕ → ℕ → ℕ → Bool

@@ -11,7 +11,7 @@ use Rattle.answer.proofs.Answer.{got-inj, bind-case}
 use Rattle.codec.specs.Octets.{Octets}
 use Rattle.codec.proofs.Tree.{first-pass-sound}
 use Rattle.schema.specs.Content.{Content, encode, wellShaped}
-use Rattle.schema.specs.Decode.{decode, read}
+use Rattle.schema.specs.Decode.{decodeWith, readWith, read, asOctets}
 use Rattle.schema.specs.Parts.{ContentOctets}
 use Rattle.schema.specs.Count.{countOf}
 use Rattle.schema.proofs.Codecs.{decode-back, decode-sound}
@@ -24,7 +24,7 @@ read-encode c t o h = good-read c (shaped-good c t o h) h
 
 -- What is read is well-shaped, its encoding is just the bytes, and the count is that encoding's.
 pub read-sound : (bs : List ℕ) (c : Content) (k : ℕ) → Octets bs → read bs ≡ got (c, k) → T (wellShaped c) × ContentOctets c × (encode c ≡ bs) × (length bs ≤ 8192) × (k ≡ countOf c)
-unfolding read
+unfolding readWith
 read-sound bs c k o e =
     bind-case _ _ e λ t et e₁.
     bind-case _ _ e₁ λ d ed e₂.
@@ -45,7 +45,7 @@ accepted-exactly bs o = (
 -- Well-shaped contents of octets whose encodings are within the limit are equal exactly when those encodings are.
 pub encode-injective : (c d : Content) → T (wellShaped c) → T (wellShaped d) → ContentOctets c → ContentOctets d → length (encode c) ≤ 8192 → length (encode d) ≤ 8192
     → (c ≡ d) ↔ (encode c ≡ encode d)
-encode-injective c d t u o p h l = (λ e. ap encode e, λ e. got-inj (sym (decode-back c (shaped-good c t o h)) ∙ ap decode e ∙ decode-back d (shaped-good d u p l)))
+encode-injective c d t u o p h l = (λ e. ap encode e, λ e. got-inj (sym (decode-back c (shaped-good c t o h)) ∙ ap (decodeWith asOctets) e ∙ decode-back d (shaped-good d u p l)))
 
 -- The contents of two accepted byte strings are equal exactly when the bytes are.
 pub read-injective : (xs ys : List ℕ) (c d : Content) (k m : ℕ) → Octets xs → Octets ys → read xs ≡ got (c, k) → read ys ≡ got (d, m) → (c ≡ d) ↔ (xs ≡ ys)

@@ -27,7 +27,7 @@ use Rattle.codec.proofs.Integer.{integer-laws}
 use Rattle.codec.proofs.Chain.{chain-laws}
 use Rattle.schema.specs.Table.{Kind, set, number32, number64, null, octets, root, Row, rows, knownVersion, heldIn, find, levelTop, hashed, top32, top64}
 use Rattle.schema.specs.Content.{Root, Value, num, nul, oct, nums, trust, Field, field, Content, enumeratedElement, octetsElement, booleanElement, hashElement, rootContent, valueElement, fieldElement, listElement, keyDescription, encode, memberGood, afterMember, hashGood, valueGood, rowGood, fieldGood, afterField, listGood, wellShaped}
-use Rattle.schema.specs.Decode.{readInteger, readEnumerated, readOctets, booleanOf, readBoolean, nullOf, readNull, readMember, readSet, readHash, rootOf, rootParts, readRoot, contentOf, rowContent, fieldContent, readField, readList, readVersion, Eight, eightOf, readEight, decode}
+use Rattle.schema.specs.Decode.{readInteger, readEnumerated, readOctets, booleanOf, readBoolean, nullOf, readNull, readMember, readSet, readHash, rootFrom, rootParts, readRoot, readValue, rowContent, fieldContent, readField, readList, readVersion, Eight, eightFrom, readEight, decodeWith, asOctets}
 
 -- ---- tests in another order
 
@@ -76,7 +76,7 @@ octetsSmall bs = areOctets bs && lengthGood (length bs)
 octets-laws : Whole (λ bs. bs) areOctets (λ p q bs. got bs)
 octets-laws = record { back = λ p q a t. refl; sound = λ p q bs a o e. rw (← got-inj e) (are-octets bs o, refl) }
 
-pub readOctets-laws : Front octetsElement octetsSmall readOctets
+pub readOctets-laws : Front octetsElement octetsSmall (readOctets asOctets)
 unfolding octetsElement readOctets
 readOctets-laws = tagged-laws wrongElement (identifier 0 4) tt octets-laws
 
@@ -163,7 +163,7 @@ hashSmall none = true
 hashSmall (some bs) = octetsSmall bs
 
 -- the boot hash where the version has one, else nothing
-pub readHash-laws : (h : Bool) → Front hashElement (λ o. hashGood h o && hashSmall o) (readHash h)
+pub readHash-laws : (h : Bool) → Front hashElement (λ o. hashGood h o && hashSmall o) (readHash asOctets h)
 unfolding readHash hashElement hashGood
 readHash-laws true = record {
   back = back;
@@ -173,12 +173,12 @@ readHash-laws true = record {
       rw (← got-inj e₁) k;
 }
   where
-    back : (p : ℕ) (a : Option (List ℕ)) (r : List ℕ) → T (hashGood true a && hashSmall a) → readHash true p (hashElement a ++ r) ≡ got (taken a (p + length (hashElement a)) r)
+    back : (p : ℕ) (a : Option (List ℕ)) (r : List ℕ) → T (hashGood true a && hashSmall a) → readHash asOctets true p (hashElement a ++ r) ≡ got (taken a (p + length (hashElement a)) r)
     back p none r t = absurd t
     back p (some bs) r t = bind-got _ _ _ (readOctets-laws .back p bs r t)
 readHash-laws false = record { back = back; sound = λ p bs w o e. rw (← got-inj e) (tt, refl) }
   where
-    back : (p : ℕ) (a : Option (List ℕ)) (r : List ℕ) → T (hashGood false a && hashSmall a) → readHash false p (hashElement a ++ r) ≡ got (taken a (p + length (hashElement a)) r)
+    back : (p : ℕ) (a : Option (List ℕ)) (r : List ℕ) → T (hashGood false a && hashSmall a) → readHash asOctets false p (hashElement a ++ r) ≡ got (taken a (p + length (hashElement a)) r)
     back p none r t = same-taken _ _ _ _ r refl (omega arith)
     back p (some bs) r t = absurd t
 
@@ -188,18 +188,18 @@ rootGood h r = leb (r .state) 3 && hashGood h (r .hash)
 abbrev pub rootSmall : Root → Bool
 rootSmall r = octetsSmall (r .key) && (hashSmall (r .hash) && lengthGood (length (rootContent r)))
 
-rootParts-laws : (h : Bool) → Front (λ t. rootContent (rootOf t)) (λ t. octetsSmall (t .0) && (true && (leb (t .1 .1 .0) 3 && (hashGood h (t .1 .1 .1) && hashSmall (t .1 .1 .1))))) (rootParts h)
+rootParts-laws : (h : Bool) → Front (λ t. rootContent (rootFrom t)) (λ t. octetsSmall (t .0) && (true && (leb (t .1 .1 .0) 3 && (hashGood h (t .1 .1 .1) && hashSmall (t .1 .1 .1))))) (rootParts asOctets h)
 unfolding rootContent rootParts
 rootParts-laws h = both-laws readOctets-laws λ k. both-laws readBoolean-laws λ b. both-laws (readEnumerated-laws 3 (omega arith)) λ n. readHash-laws h
 
 root-parts : (k s g h n : Bool) → ((k && (s && (g && h))) && n) ≡ ((s && g) && (k && (h && n)))
 root-parts k s g h n = simp (and-assoc, and-swap)
 
-pub readRoot-laws : (h : Bool) → Front (λ t. elementOctets (identifier 1 16) (rootContent (rootOf t))) (λ t. rootGood h (rootOf t) && rootSmall (rootOf t)) (readRoot h)
+pub readRoot-laws : (h : Bool) → Front (λ t. elementOctets (identifier 1 16) (rootContent (rootFrom t))) (λ t. rootGood h (rootFrom t) && rootSmall (rootFrom t)) (readRoot asOctets h)
 unfolding readRoot
 readRoot-laws h =
-    same-good (tagged-laws wrongElement (identifier 1 16) tt (exactly-laws wrongElement (rootParts-laws h))) (λ t. rootGood h (rootOf t) && rootSmall (rootOf t))
-    (λ t. root-parts (octetsSmall (t .0)) (leb (t .1 .1 .0) 3) (hashGood h (t .1 .1 .1)) (hashSmall (t .1 .1 .1)) (lengthGood (length (rootContent (rootOf t)))))
+    same-good (tagged-laws wrongElement (identifier 1 16) tt (exactly-laws wrongElement (rootParts-laws h))) (λ t. rootGood h (rootFrom t) && rootSmall (rootFrom t))
+    (λ t. root-parts (octetsSmall (t .0)) (leb (t .1 .1 .0) 3) (hashGood h (t .1 .1 .1)) (hashSmall (t .1 .1 .1)) (lengthGood (length (rootContent (rootFrom t)))))
 
 -- ---- a value of each kind
 
@@ -213,7 +213,7 @@ Shaped v set x = (l : List ℕ) × (nums l ≡ x) × T (setGood l)
 Shaped v root x = (r : Root) × (trust r ≡ x) × T (rootGood (hashed v) r)
 
 pub shaped : (v : ℕ) (k : Kind) (x : Value) → T (valueGood v k x) → Shaped v k x
-unfolding valueGood
+unfolding valueGood pick
 shaped v number32 (num n) t = (n, refl, t)
 shaped v number32 nul t = absurd t
 shaped v number32 (oct bs) t = absurd t
@@ -263,30 +263,30 @@ module _ (v : ℕ) (k : Kind) (x : Value) (t : T (valueFits v k x)) where
   smallAt : (y : Value) → y ≡ x → T (valueSmall y)
   smallAt y e = rw e (and-right (valueGood v k x) _ t)
 
-pub contentOf-laws : (v : ℕ) (k : Kind) → Whole valueElement (valueFits v k) (contentOf v k)
-unfolding contentOf valueElement valueGood
-contentOf-laws v number32 =
+pub readValue-laws : (v : ℕ) (k : Kind) → Whole valueElement (valueFits v k) (readValue asOctets v k)
+unfolding readValue valueElement valueGood pick
+readValue-laws v number32 =
     under-laws num valueElement (valueFits v number32) (exactly-laws wrongElement (readInteger-laws top32 (omega arith))) (λ n. refl)
     (λ n t. and-both (leb n top32) true t tt)
     (λ x t. is v number32 x t)
-contentOf-laws v number64 =
+readValue-laws v number64 =
     under-laws num valueElement (valueFits v number64) (exactly-laws wrongElement (readInteger-laws top64 (omega arith))) (λ n. refl)
     (λ n t. and-both (leb n top64) true t tt)
     (λ x t. is v number64 x t)
-contentOf-laws v null =
+readValue-laws v null =
     under-laws (λ u. nul) valueElement (valueFits v null) (exactly-laws wrongElement readNull-laws) (λ u. refl)
     (λ u t. tt)
     (λ x t. (tt, is v null x t, tt))
-contentOf-laws v octets =
+readValue-laws v octets =
     under-laws oct valueElement (valueFits v octets) (exactly-laws wrongElement readOctets-laws) (λ bs. refl)
     (λ bs t. t)
     (λ x t. let s = is v octets x t in (s .0, s .1, smallAt v octets x t (oct (s .0)) (s .1)))
-contentOf-laws v set =
+readValue-laws v set =
     under-laws nums valueElement (valueFits v set) (exactly-laws wrongElement readSet-laws) (λ l. refl)
     (λ l t. t)
     (λ x t. let s = is v set x t in (s .0, s .1, and-both (setGood (s .0)) _ (s .2) (smallAt v set x t (nums (s .0)) (s .1))))
-contentOf-laws v root =
-    under-laws (λ t. trust (rootOf t)) valueElement (valueFits v root) (exactly-laws wrongElement (readRoot-laws (hashed v))) (λ t. refl)
+readValue-laws v root =
+    under-laws (λ t. trust (rootFrom t)) valueElement (valueFits v root) (exactly-laws wrongElement (readRoot-laws (hashed v))) (λ t. refl)
     (λ r t. t)
     (λ x t. let s = is v root x t in let r = s .0 in ((r .key, (r .locked, (r .state, r .hash))), s .1, and-both (rootGood (hashed v) r) _ (s .2) (smallAt v root x t (trust r) (s .1))))
 
@@ -310,13 +310,13 @@ rows-below : T (below rows)
 unfolding rows
 rows-below = tt
 
-row-back : (v low n p q : ℕ) (o : Option Row) (x : Value) → T (leb low n) → T (rowGood v o x) → T (valueSmall x) → rowContent v low n o p q (valueElement x) ≡ got (field n x)
+row-back : (v low n p q : ℕ) (o : Option Row) (x : Value) → T (leb low n) → T (rowGood v o x) → T (valueSmall x) → rowContent asOctets v low n o p q (valueElement x) ≡ got (field n x)
 unfolding rowContent rowGood
 row-back v low n p q none x l t s = absurd t
 row-back v low n p q (some r) x l t s =
     guard-yes _ _ _ _ (and-left (heldIn v r) _ t)
     ∙ guard-yes _ _ _ _ l
-    ∙ bind-got _ _ _ (contentOf-laws v (r .kind) .back p q x (and-both (valueGood v (r .kind) x) _ (and-right (heldIn v r) _ t) s))
+    ∙ bind-got _ _ _ (readValue-laws v (r .kind) .back p q x (and-both (valueGood v (r .kind) x) _ (and-right (heldIn v r) _ t) s))
 
 -- what a row's content that was read says
 record Held (v low n : ℕ) (o : Option Row) (bs : List ℕ) (f : Field) : Type 0 where
@@ -326,14 +326,14 @@ record Held (v low n : ℕ) (o : Option Row) (bs : List ℕ) (f : Field) : Type 
   small : T (valueSmall (f .value))
   whole : valueElement (f .value) ≡ bs
 
-row-sound : (v low n p q : ℕ) (o : Option Row) (bs : List ℕ) (f : Field) → Octets bs → rowContent v low n o p q bs ≡ got f → Held v low n o bs f
+row-sound : (v low n p q : ℕ) (o : Option Row) (bs : List ℕ) (f : Field) → Octets bs → rowContent asOctets v low n o p q bs ≡ got f → Held v low n o bs f
 unfolding rowContent rowGood
 row-sound v low n p q none bs f o e = absurd (refused-got e)
 row-sound v low n p q (some r) bs f o e =
     guard-case _ _ _ _ e λ held e₁.
     guard-case _ _ _ _ e₁ λ l e₂.
     bind-case _ _ e₂ λ x ex e₃.
-    let k = contentOf-laws v (r .kind) .sound p q bs x o ex in
+    let k = readValue-laws v (r .kind) .sound p q bs x o ex in
     rw (← got-inj e₃) (record {
       number = refl;
       above = l;
@@ -345,7 +345,7 @@ row-sound v low n p q (some r) bs f o e =
 abbrev pub fieldSmall : Field → Bool
 fieldSmall f = valueSmall (f .value) && lengthGood (length (valueElement (f .value)))
 
-fieldContent-laws : (v low : ℕ) → Inside (λ f. identifier 5 (f .number)) (λ f. valueElement (f .value)) (λ f. fieldGood v low f && valueSmall (f .value)) (fieldContent v low)
+fieldContent-laws : (v low : ℕ) → Inside (λ f. identifier 5 (f .number)) (λ f. valueElement (f .value)) (λ f. fieldGood v low f && valueSmall (f .value)) (fieldContent asOctets v low)
 unfolding fieldContent fieldGood
 fieldContent-laws v low = record {
   back = λ p q f t.
@@ -366,7 +366,7 @@ pub field-below : (v low : ℕ) (f : Field) → T (fieldGood v low f) → T (ltb
 unfolding fieldGood
 field-below v low f t = find-below rows v (f .number) (f .value) rows-below (and-right (leb low (f .number)) _ t)
 
-pub readField-laws : (v low : ℕ) → Front fieldElement (λ f. fieldGood v low f && fieldSmall f) (readField v low)
+pub readField-laws : (v low : ℕ) → Front fieldElement (λ f. fieldGood v low f && fieldSmall f) (readField asOctets v low)
 unfolding fieldElement readField
 readField-laws v low =
     regood (element-laws wrongElement (fieldContent-laws v low)) (λ f. fieldGood v low f && fieldSmall f)
@@ -396,10 +396,10 @@ pub fields-parts : (v low : ℕ) (fs : List Field) → chainGood (λ s f. fieldG
 fields-parts v low [] = refl
 fields-parts v low (f ∷ fs) = rw (fields-parts v (f .number + 1) fs) (and-pairs (fieldGood v low f) (fieldSmall f) (chainGood (fieldGood v) afterField (f .number + 1) fs) (fieldsSmall fs))
 
-pub readList-laws : (v : ℕ) → Front listElement (λ fs. listGood v fs && listSmall fs) (readList v)
+pub readList-laws : (v : ℕ) → Front listElement (λ fs. listGood v fs && listSmall fs) (readList asOctets v)
 unfolding listElement readList listGood
 readList-laws v =
-    same-good (tagged-laws wrongElement (identifier 1 16) tt (chain-laws (readField v) afterField fieldElement (λ low f. fieldGood v low f && fieldSmall f) (readField-laws v) field-long 0)) (λ fs. listGood v fs && listSmall fs)
+    same-good (tagged-laws wrongElement (identifier 1 16) tt (chain-laws (readField asOctets v) afterField fieldElement (λ low f. fieldGood v low f && fieldSmall f) (readField-laws v) field-long 0)) (λ fs. listGood v fs && listSmall fs)
     (λ fs. rw (fields-parts v 0 fs) (and-assoc (listGood v fs) (fieldsSmall fs) (lengthGood (length (chainOctets fieldElement fs)))))
 
 -- ---- the eight
@@ -462,7 +462,7 @@ eightGood c =
 eight-parts : (v l k m c u g s h t n : Bool) → ((v && (l && (k && (m && (c && (u && ((g && s) && (h && t)))))))) && n) ≡ ((v && (l && (k && (m && (g && h))))) && (c && (u && (s && (t && n)))))
 eight-parts v l k m c u g s h t n = simp (and-assoc, and-swap)
 
-eight-laws : Front (λ t. keyDescription (eightOf t)) (λ t. eightGood (eightOf t)) readEight
+eight-laws : Front (λ t. keyDescription (eightFrom t)) (λ t. eightGood (eightFrom t)) (readEight asOctets)
 unfolding keyDescription readEight
 eight-laws =
     both-laws readVersion-laws λ v.
@@ -473,10 +473,10 @@ eight-laws =
     both-laws readOctets-laws λ u.
     both-laws (readList-laws v) λ s. readList-laws v
 
-pub readEight-laws : Front (λ t. encode (eightOf t)) (λ t. good (eightOf t)) (tagged wrongElement (identifier 1 16) (λ p q bs. exactly wrongElement readEight q bs))
+pub readEight-laws : Front (λ t. encode (eightFrom t)) (λ t. good (eightFrom t)) (tagged wrongElement (identifier 1 16) (λ p q bs. exactly wrongElement (readEight asOctets) q bs))
 unfolding encode wellShaped
 readEight-laws =
-    same-good (tagged-laws wrongElement (identifier 1 16) tt (exactly-laws wrongElement eight-laws)) (λ t. good (eightOf t)) (λ t. parts (eightOf t))
+    same-good (tagged-laws wrongElement (identifier 1 16) tt (exactly-laws wrongElement eight-laws)) (λ t. good (eightFrom t)) (λ t. parts (eightFrom t))
   where
     parts : (c : Content) → (eightGood c && lengthGood (length (keyDescription c))) ≡ good c
     parts c =
@@ -484,17 +484,17 @@ readEight-laws =
         (octetsSmall (c .challenge)) (octetsSmall (c .unique)) (listGood (c .version) (c .software)) (listSmall (c .software)) (listGood (c .version) (c .hardware)) (listSmall (c .hardware))
         (lengthGood (length (keyDescription c)))
 
-abbrev parted : Content → Eight
+abbrev parted : Content → Eight (List ℕ)
 parted c = (c .version, (c .level, (c .keymint, (c .keymintLevel, (c .challenge, (c .unique, (c .software, c .hardware)))))))
 
 -- ---- the whole
 
 -- what is good to encode is read back
-pub decode-back : (c : Content) → T (good c) → decode (encode c) ≡ got c
-unfolding decode
+pub decode-back : (c : Content) → T (good c) → decodeWith asOctets (encode c) ≡ got c
+unfolding decodeWith
 decode-back c t = bind-got _ _ _ (exactly-laws spareBytes readEight-laws .back 0 0 (parted c) t)
 
 -- what is read was encoded, and is good
-pub decode-sound : (bs : List ℕ) (c : Content) → Octets bs → decode bs ≡ got c → T (good c) × (encode c ≡ bs)
-unfolding decode
+pub decode-sound : (bs : List ℕ) (c : Content) → Octets bs → decodeWith asOctets bs ≡ got c → T (good c) × (encode c ≡ bs)
+unfolding decodeWith
 decode-sound bs c o e = bind-case _ _ e λ t et e₁. rw (← got-inj e₁) (exactly-laws spareBytes readEight-laws .sound 0 0 bs t o et)

@@ -19,7 +19,7 @@ use Rattle.codec.specs.Element.{chainOctets, chainGood, total}
 use Rattle.codec.proofs.Walks.{One, Walks, nothing, single, append, flat, around, chained, top}
 use Rattle.schema.specs.Table.{Kind, set, number32, number64, null, octets, root, Row, rows, knownVersion, heldIn, find, levelTop, top32, top64}
 use Rattle.schema.specs.Content.{Root, Value, Field, Content, enumeratedElement, octetsElement, booleanElement, hashElement, rootContent, valueElement, fieldElement, listElement, keyDescription, encode, memberGood, afterMember, valueGood, rowGood, fieldGood, afterField, listGood, wellShaped}
-use Rattle.schema.specs.Decode.{read}
+use Rattle.schema.specs.Decode.{readWith, read}
 use Rattle.schema.specs.Count.{hashCount, valueCount, fieldCount, listCount, countOf}
 use Rattle.schema.proofs.Codecs.{integer-small, boolean-small, octetsSmall, hashSmall, rootSmall, shaped, areOctets, valueSmall, fieldSmall, fieldsSmall, listSmall, small, good, decode-back, version-small, level-small, field-below, fields-parts}
 
@@ -235,7 +235,7 @@ count-few c t =
 -- ---- the whole: a good content is read back, with its count
 
 pub good-read : (c : Content) → T (good c) → length (encode c) ≤ 8192 → read (encode c) ≡ got (c, countOf c)
-unfolding read
+unfolding readWith
 good-read c t h =
     let a = top 8192 8 512 (encode-one 3 c t) (omega (arith, count-few c (and-left (wellShaped c) (small c) t))) h in
     bind-got _ _ _ (a .2) ∙ bind-got _ _ _ (decode-back c t) ∙ ap (λ (k : ℕ). got (c, k)) (a .1)

@@ -22,7 +22,7 @@ octets-of : (bs : List ℕ) → T (areOctets bs) → Octets bs
 octets-of [] t = tt
 octets-of (x ∷ bs) t = (ltb→lt x 256 (and-left (ltb x 256) _ t), octets-of bs (and-right (ltb x 256) _ t))
 
-octets-from : (bs : List ℕ) → T (octetsSmall bs) → Octets bs
+pub octets-from : (bs : List ℕ) → T (octetsSmall bs) → Octets bs
 octets-from bs t = octets-of bs (and-left (areOctets bs) _ t)
 
 hash-from : (o : Option (List ℕ)) → T (hashSmall o) → HashOctets o

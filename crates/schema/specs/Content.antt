@@ -1,48 +1,109 @@
 -- What an extension says, free of places and spare slots, and its one encoding (document 01, "KeyDescription").
-use mathlib.Core.Bool.{Bool, true, false, _&&_}
+use mathlib.Core.Bool.{Bool, true, false, _&&_, _||_}
 use mathlib.Core.Option.{Option, none, some}
-use mathlib.Core.List.{List, [], _∷_, _++_}
+use mathlib.Core.List.{List, [], _∷_, _++_, map}
 use Prim.Native.Nat.{ℕ, _+_}
-use lib.ListN.{length}
+use lib.ListN.{length, take, drop}
 use lib.Dec.{ltb, leb, eqb}
 use Rattle.answer.specs.Answer.{pick}
 use Rattle.codec.specs.Shortest.{integerOctets}
 use Rattle.codec.specs.Integer.{integerElement}
 use Rattle.codec.specs.Header.{identifier, elementOctets}
 use Rattle.codec.specs.Element.{chainOctets, chainGood}
-use Rattle.schema.specs.Table.{Kind, set, number32, number64, null, octets, root, Row, rows, knownVersion, heldIn, find, levelTop, hashed, top32, top64}
+use Rattle.schema.specs.Table.{Kind, isKind, set, number32, number64, null, octets, root, Row, rows, knownVersion, heldIn, find, levelTop, hashed, top32, top64}
+
+-- What an OCTET STRING becomes is a parameter, O: its octets, or where they lie. `Root`, `Value`, `Field` and `Content` are
+-- those with octets.
 
 -- "boot key OCTET STRING, locked BOOLEAN, state ENUMERATED 0 to 3, and from version 3 a boot hash OCTET STRING"
-pub record Root : Type 0 where
-  pub key : List ℕ
+pub record RootWith (O : Type 0) : Type 0 where
+  pub key : O
   pub locked : Bool
   pub state : ℕ
-  pub hash : Option (List ℕ)
+  pub hash : Option O
 
-pub data Value : Type 0 where
-  num : ℕ → Value
-  nul : Value
-  oct : List ℕ → Value
-  nums : List ℕ → Value
-  trust : Root → Value
+pub data ValueWith (O : Type 0) : Type 0 where
+  num : ℕ → ValueWith O
+  nul : ValueWith O
+  oct : O → ValueWith O
+  nums : List ℕ → ValueWith O
+  trust : RootWith O → ValueWith O
 
-pub record Field : Type 0 where
+pub record FieldWith (O : Type 0) : Type 0 where
   pub number : ℕ
-  pub value : Value
+  pub value : ValueWith O
 
-abbrev pub field : ℕ → Value → Field
+abbrev pub field : {O : Type 0} → ℕ → ValueWith O → FieldWith O
 field n v = record { number = n; value = v }
 
 -- the eight of a KeyDescription; each list has its present fields in ascending number
-pub record Content : Type 0 where
+pub record ContentWith (O : Type 0) : Type 0 where
   pub version : ℕ
   pub level : ℕ
   pub keymint : ℕ
   pub keymintLevel : ℕ
-  pub challenge : List ℕ
-  pub unique : List ℕ
-  pub software : List Field
-  pub hardware : List Field
+  pub challenge : O
+  pub unique : O
+  pub software : List (FieldWith O)
+  pub hardware : List (FieldWith O)
+
+abbrev pub Root : Type 0
+Root = RootWith (List ℕ)
+
+abbrev pub Value : Type 0
+Value = ValueWith (List ℕ)
+
+abbrev pub Field : Type 0
+Field = FieldWith (List ℕ)
+
+abbrev pub Content : Type 0
+Content = ContentWith (List ℕ)
+
+-- "each octet part as a start and a length"
+pub record Place : Type 0 where
+  pub start : ℕ
+  pub len : ℕ
+
+abbrev pub placeAt : ℕ → ℕ → Place
+placeAt p n = record { start = p; len = n }
+
+abbrev pub Places : Type 0
+Places = ContentWith Place
+
+-- the octets of s that lie there
+abbrev pub octetsIn : List ℕ → Place → List ℕ
+octetsIn s p = take (p .len) (drop (p .start) s)
+
+-- ---- the same content, each octet part taken through f
+
+unfoldable pub mapHash : {O P : Type 0} → (O → P) → Option O → Option P
+mapHash f none = none
+mapHash f (some o) = some (f o)
+
+abbrev pub mapRoot : {O P : Type 0} → (O → P) → RootWith O → RootWith P
+mapRoot f r = record { key = f (r .key); locked = r .locked; state = r .state; hash = mapHash f (r .hash) }
+
+unfoldable pub mapValue : {O P : Type 0} → (O → P) → ValueWith O → ValueWith P
+mapValue f (num n) = num n
+mapValue f nul = nul
+mapValue f (oct o) = oct (f o)
+mapValue f (nums l) = nums l
+mapValue f (trust r) = trust (mapRoot f r)
+
+abbrev pub mapField : {O P : Type 0} → (O → P) → FieldWith O → FieldWith P
+mapField f x = field (x .number) (mapValue f (x .value))
+
+abbrev pub mapContent : {O P : Type 0} → (O → P) → ContentWith O → ContentWith P
+mapContent f c = record {
+  version = c .version;
+  level = c .level;
+  keymint = c .keymint;
+  keymintLevel = c .keymintLevel;
+  challenge = f (c .challenge);
+  unique = f (c .unique);
+  software = map (mapField f) (c .software);
+  hardware = map (mapField f) (c .hardware);
+}
 
 -- ---- the encoding: DER of the schema, with its values and its present fields, no others
 
@@ -100,60 +161,35 @@ memberGood s n = ltb (s .0) 16 && (leb n top32 && leb (s .1) n)
 abbrev pub afterMember : ℕ × ℕ → ℕ → ℕ × ℕ
 afterMember s n = (s .0 + 1, n + 1)
 
-unfoldable pub hashGood : Bool → Option (List ℕ) → Bool
+unfoldable pub hashGood : {O : Type 0} → Bool → Option O → Bool
 hashGood true none = false
 hashGood true (some bs) = true
 hashGood false none = true
 hashGood false (some bs) = false
 
 -- a value of a kind, within its tops
-unfoldable pub valueGood : ℕ → Kind → Value → Bool
-valueGood v number32 (num n) = leb n top32
-valueGood v number32 nul = false
-valueGood v number32 (oct bs) = false
-valueGood v number32 (nums l) = false
-valueGood v number32 (trust r) = false
-valueGood v number64 (num n) = leb n top64
-valueGood v number64 nul = false
-valueGood v number64 (oct bs) = false
-valueGood v number64 (nums l) = false
-valueGood v number64 (trust r) = false
-valueGood v null (num n) = false
-valueGood v null nul = true
-valueGood v null (oct bs) = false
-valueGood v null (nums l) = false
-valueGood v null (trust r) = false
-valueGood v octets (num n) = false
-valueGood v octets nul = false
-valueGood v octets (oct bs) = true
-valueGood v octets (nums l) = false
-valueGood v octets (trust r) = false
-valueGood v set (num n) = false
-valueGood v set nul = false
-valueGood v set (oct bs) = false
-valueGood v set (nums l) = chainGood memberGood afterMember (0, 0) l
-valueGood v set (trust r) = false
-valueGood v root (num n) = false
-valueGood v root nul = false
-valueGood v root (oct bs) = false
-valueGood v root (nums l) = false
-valueGood v root (trust r) = leb (r .state) 3 && hashGood (hashed v) (r .hash)
+unfoldable pub valueGood : {O : Type 0} → ℕ → Kind → ValueWith O → Bool
+valueGood v k (num n) = (isKind number32 k || isKind number64 k) && leb n (pick (isKind number32 k) top32 top64)
+valueGood v k nul = isKind null k
+valueGood v k (oct o) = isKind octets k
+valueGood v k (nums l) = isKind set k && chainGood memberGood afterMember (0, 0) l
+valueGood v k (trust r) = isKind root k && (leb (r .state) 3 && hashGood (hashed v) (r .hash))
 
-unfoldable pub rowGood : ℕ → Option Row → Value → Bool
+unfoldable pub rowGood : {O : Type 0} → ℕ → Option Row → ValueWith O → Bool
 rowGood v none x = false
 rowGood v (some r) x = heldIn v r && valueGood v (r .kind) x
 
 -- a field that the version holds, its number not below low
-unfoldable pub fieldGood : ℕ → ℕ → Field → Bool
+unfoldable pub fieldGood : {O : Type 0} → ℕ → ℕ → FieldWith O → Bool
 fieldGood v low f = leb low (f .number) && rowGood v (find rows (f .number)) (f .value)
 
-abbrev pub afterField : ℕ → Field → ℕ
+abbrev pub afterField : {O : Type 0} → ℕ → FieldWith O → ℕ
 afterField low f = f .number + 1
 
-unfoldable pub listGood : ℕ → List Field → Bool
+unfoldable pub listGood : {O : Type 0} → ℕ → List (FieldWith O) → Bool
 listGood v fs = chainGood (fieldGood v) afterField 0 fs
 
-unfoldable pub wellShaped : Content → Bool
+unfoldable pub wellShaped : {O : Type 0} → ContentWith O → Bool
 wellShaped c =
     knownVersion (c .version)
     && (leb (c .level) (levelTop (c .version))

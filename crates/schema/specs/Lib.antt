@@ -1,4 +1,5 @@
 pub mod Table
+pub mod Limits
 pub mod Rows
 pub mod Content
 pub mod Decode

@@ -11,6 +11,18 @@ use Rattle.answer.specs.Answer.{pick}
 pub data Kind : Type 0 where
   set number32 number64 null octets root : Kind
 
+abbrev pub kindNumber : Kind → ℕ
+kindNumber set = 0
+kindNumber number32 = 1
+kindNumber number64 = 2
+kindNumber null = 3
+kindNumber octets = 4
+kindNumber root = 5
+
+-- the same kind: kinds are told apart by a number each
+abbrev pub isKind : Kind → Kind → Bool
+isKind k j = eqb (kindNumber k) (kindNumber j)
+
 -- a field's number, its kind, and the first and last version that hold it
 pub record Row : Type 0 where
   pub number : ℕ
@@ -70,6 +82,10 @@ rows =
     ∷ row 720 null 4 newest  -- deviceUniqueAttestation
     ∷ row 723 octets 300 newest  -- attestationIdSecondImei
     ∷ []
+
+-- how many rows there are
+abbrev pub rowCount : ℕ
+rowCount = 42
 
 -- "Attestation versions 1, 2, 3, 4, 100, 200 and 300"
 unfoldable pub knownVersion : ℕ → Bool

@@ -222,18 +222,18 @@ set-put b ms c e f = around 1 17 b (chainOctets integerElement ms) c e f
 
 module _ (s : List ℕ) (t : RootOfTrust) {old o₁ o₂ o₃ : List ℕ} {p p₁ p₂ p₃ : ℕ} (e₁ : Puts old p (octetsElement (partOf s (t .key))) o₁ p₁) (e₂ : Puts o₁ p₁ (booleanElement (t .locked)) o₂ p₂)
     (e₃ : Puts o₂ p₂ (enumeratedElement (t .state)) o₃ p₃) where
-  pub root-hashed : {new : List ℕ} {r : ℕ} → t .hashed ≡ true → Puts o₃ p₃ (octetsElement (partOf s (t .hash))) new r → Puts old p (rootContent (rootOf s t)) new r
+  pub root-hashed : {new : List ℕ} {r : ℕ} → t .hashed ≡ true → Puts o₃ p₃ (octetsElement (partOf s (t .hash))) new r → Puts old p (rootContent (rootOf (octetsAt s) t)) new r
   unfolding rootContent hashElement pick
   root-hashed h e₄ = rw h (joined e₁ (joined e₂ (joined e₃ e₄)))
 
-  pub root-plain : t .hashed ≡ false → Puts old p (rootContent (rootOf s t)) o₃ p₃
+  pub root-plain : t .hashed ≡ false → Puts old p (rootContent (rootOf (octetsAt s) t)) o₃ p₃
   unfolding rootContent hashElement pick
   root-plain h = rw (h, append-nil) (joined e₁ (joined e₂ e₃))
 
-pub root-put : {old mid new : List ℕ} {p q r : ℕ} (s : List ℕ) (t : RootOfTrust) (b : ℕ) → Sized (rootContent (rootOf s t)) b → (b ≤ 8192 → Puts old p (headerOctets (identifier 1 16) b) mid q)
-    → Puts mid q (rootContent (rootOf s t)) new r → Puts old p (valueElement (trust (rootOf s t))) new r
+pub root-put : {old mid new : List ℕ} {p q r : ℕ} (s : List ℕ) (t : RootOfTrust) (b : ℕ) → Sized (rootContent (rootOf (octetsAt s) t)) b → (b ≤ 8192 → Puts old p (headerOctets (identifier 1 16) b) mid q)
+    → Puts mid q (rootContent (rootOf (octetsAt s) t)) new r → Puts old p (valueElement (trust (rootOf (octetsAt s) t))) new r
 unfolding valueElement
-root-put s t b c e f = around 1 16 b (rootContent (rootOf s t)) c e f
+root-put s t b c e f = around 1 16 b (rootContent (rootOf (octetsAt s) t)) c e f
 
 -- ---- a value that is neither a set nor 704, by its kind
 
@@ -283,22 +283,22 @@ field-put n b x c e f = around 5 n b (valueElement x) c e f
 module _ (l : FieldList) (s : List ℕ) where
   -- the fields of the rows before the k-th are put
   abbrev pub Listed : ℕ → List ℕ → ℕ → List ℕ → ℕ → Type 0
-  Listed k old p new q = Puts old p (chainOctets fieldElement (upTo (fieldAt l s) k)) new q
+  Listed k old p new q = Puts old p (chainOctets fieldElement (upTo (fieldAt l (octetsAt s)) k)) new q
 
   pub fields-start : (old : List ℕ) (p : ℕ) → Listed 0 old p old p
   unfolding upTo
   fields-start old p = nothing old p
 
-  pub fields-more : (k : ℕ) {old mid new : List ℕ} {p q r : ℕ} (row : Row) (x : Value) → getD (l .present) k false ≡ true → ofRow row ≡ rowAt k → x ≡ valueAt l s (row .number) (ofKind (row .kind)) k
+  pub fields-more : (k : ℕ) {old mid new : List ℕ} {p q r : ℕ} (row : Row) (x : Value) → getD (l .present) k false ≡ true → ofRow row ≡ rowAt k → x ≡ valueAt l (octetsAt s) (row .number) (ofKind (row .kind)) k
       → Listed k old p mid q → Puts mid q (fieldElement (field (row .number) x)) new r → Listed (k + 1) old p new r
   unfolding upTo fieldAt pick
-  fields-more k row x h d g e f = rw (add-one, h, ← row-field l s k row x d g) (chain-more fieldElement (upTo (fieldAt l s) k) (field (row .number) x) e f)
+  fields-more k row x h d g e f = rw (add-one, h, ← row-field l s k row x d g) (chain-more fieldElement (upTo (fieldAt l (octetsAt s)) k) (field (row .number) x) e f)
 
   pub fields-skip : (k : ℕ) {old new : List ℕ} {p q : ℕ} → getD (l .present) k false ≡ false → Listed k old p new q → Listed (k + 1) old p new q
   unfolding upTo fieldAt pick
   fields-skip k h e = rw (add-one, h, append-nil) e
 
-  pub fields-end : (k : ℕ) {old new : List ℕ} {p q : ℕ} → 42 ≤ k → k ≤ 42 → Listed k old p new q → Puts old p (chainOctets fieldElement (fieldsOf l s)) new q
+  pub fields-end : (k : ℕ) {old new : List ℕ} {p q : ℕ} → 42 ≤ k → k ≤ 42 → Listed k old p new q → Puts old p (chainOctets fieldElement (fieldsOf l (octetsAt s))) new q
   fields-end k h w e = let z : k ≡ 42 = omega arith in rw z at e
 
 -- ---- the whole
@@ -318,7 +318,7 @@ unfolding headOctets
 head-put xs ys challenge unique e₁ e₂ e₃ e₄ = joined e₁ (joined e₂ (joined e₃ e₄))
 
 pub extension-put : {old o₁ o₂ o₃ new : List ℕ} {p p₁ p₂ p₃ q : ℕ} (r : Record) (s : List ℕ) (b : ℕ) → Sized (keyDescription (contentOf r s)) b
-    → (b ≤ 8192 → Puts old p (headerOctets (identifier 1 16) b) o₁ p₁) → Puts o₁ p₁ (Head r s) o₂ p₂ → Puts o₂ p₂ (listElement (fieldsOf (r .software) s)) o₃ p₃
-    → Puts o₃ p₃ (listElement (fieldsOf (r .hardware) s)) new q → Puts old p (encode (contentOf r s)) new q
+    → (b ≤ 8192 → Puts old p (headerOctets (identifier 1 16) b) o₁ p₁) → Puts o₁ p₁ (Head r s) o₂ p₂ → Puts o₂ p₂ (listElement (fieldsOf (r .software) (octetsAt s))) o₃ p₃
+    → Puts o₃ p₃ (listElement (fieldsOf (r .hardware) (octetsAt s))) new q → Puts old p (encode (contentOf r s)) new q
 unfolding encode
 extension-put r s b c e₁ e₂ e₃ e₄ = around 1 16 b (keyDescription (contentOf r s)) c e₁ (rw (eight-is r s) at (joined e₂ (joined e₃ e₄)))

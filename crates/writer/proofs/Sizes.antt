@@ -166,17 +166,17 @@ module _ (s : List ℕ) (t : RootOfTrust) (k z locked fixed : ℕ) (e : Sized (o
       joined (octetsElement (partOf s (t .key)) ++ booleanElement (t .locked)) (enumeratedElement (t .state)) locked z fixed
       (joined (octetsElement (partOf s (t .key))) (booleanElement (t .locked)) k 3 locked e (boolean-sized (t .locked)) q) f q₂
 
-  pub root-hashed : (m r : ℕ) → t .hashed ≡ true → Sized (octetsElement (partOf s (t .hash))) m → r ≡ capped (fixed + m) → Sized (rootContent (rootOf s t)) r
+  pub root-hashed : (m r : ℕ) → t .hashed ≡ true → Sized (octetsElement (partOf s (t .hash))) m → r ≡ capped (fixed + m) → Sized (rootContent (rootOf (octetsAt s) t)) r
   unfolding rootContent hashElement pick
   root-hashed m r h g q₃ = rw h (simp append-assoc at (joined _ (octetsElement (partOf s (t .hash))) fixed m r root-fixed g q₃))
 
-  pub root-plain : t .hashed ≡ false → Sized (rootContent (rootOf s t)) fixed
+  pub root-plain : t .hashed ≡ false → Sized (rootContent (rootOf (octetsAt s) t)) fixed
   unfolding rootContent hashElement pick
   root-plain h = rw (h, append-nil) (simp append-assoc at root-fixed)
 
-pub root-sized : (s : List ℕ) (t : RootOfTrust) (m r : ℕ) → Sized (rootContent (rootOf s t)) m → r ≡ elementSize 16 m → Sized (valueElement (trust (rootOf s t))) r
+pub root-sized : (s : List ℕ) (t : RootOfTrust) (m r : ℕ) → Sized (rootContent (rootOf (octetsAt s) t)) m → r ≡ elementSize 16 m → Sized (valueElement (trust (rootOf (octetsAt s) t))) r
 unfolding valueElement
-root-sized s t m r e q = around 1 16 m r (rootContent (rootOf s t)) e q
+root-sized s t m r e q = around 1 16 m r (rootContent (rootOf (octetsAt s) t)) e q
 
 -- ---- a value that is neither a set nor 704, by its kind
 
@@ -220,15 +220,15 @@ module _ (s : List ℕ) (kind : Kind) (value size r : ℕ) where
 
 -- what the value of a row is, by the kind that its row has
 module _ (l : FieldList) (s : List ℕ) (n k : ℕ) where
-  pub set-value : (kind : Kind) (g : NumberSet) → kind ≡ Kind.Set → g ≡ setAt l n → nums (membersOf g) ≡ valueAt l s n (ofKind kind) k
+  pub set-value : (kind : Kind) (g : NumberSet) → kind ≡ Kind.Set → g ≡ setAt l n → nums (membersOf g) ≡ valueAt l (octetsAt s) n (ofKind kind) k
   unfolding valueAt
   set-value kind g e d = rw (e, d) refl
 
-  pub root-value : (kind : Kind) → kind ≡ Kind.Root → trust (rootOf s (l .root)) ≡ valueAt l s n (ofKind kind) k
+  pub root-value : (kind : Kind) → kind ≡ Kind.Root → trust (rootOf (octetsAt s) (l .root)) ≡ valueAt l (octetsAt s) n (ofKind kind) k
   unfolding valueAt
   root-value kind e = rw e refl
 
-  pub plain-value : (kind : Kind) → OneOf (1 ∷ 2 ∷ 3 ∷ 4 ∷ []) (tagOf kinds.the-type kind) → plainValue s (ofKind kind) (getD (l .values) k 0) (getD (l .sizes) k 0) ≡ valueAt l s n (ofKind kind) k
+  pub plain-value : (kind : Kind) → OneOf (1 ∷ 2 ∷ 3 ∷ 4 ∷ []) (tagOf kinds.the-type kind) → plainValue s (ofKind kind) (getD (l .values) k 0) (getD (l .sizes) k 0) ≡ valueAt l (octetsAt s) n (ofKind kind) k
   unfolding valueAt plainValue
   plain-value Kind.Set (inl e) = absurd (omega arith)
   plain-value Kind.Set (inr (inl e)) = absurd (omega arith)
@@ -244,30 +244,30 @@ module _ (l : FieldList) (s : List ℕ) (n k : ℕ) where
   plain-value Kind.Root (inr (inr (inr e))) = absurd (omega arith)
 
 -- the field of a row, from its value
-pub row-field : (l : FieldList) (s : List ℕ) (k : ℕ) (row : Row) (x : Value) → ofRow row ≡ rowAt k → x ≡ valueAt l s (row .number) (ofKind (row .kind)) k
-    → field (row .number) x ≡ field (rowAt k .number) (valueAt l s (rowAt k .number) (rowAt k .kind) k)
+pub row-field : (l : FieldList) (s : List ℕ) (k : ℕ) (row : Row) (x : Value) → ofRow row ≡ rowAt k → x ≡ valueAt l (octetsAt s) (row .number) (ofKind (row .kind)) k
+    → field (row .number) x ≡ field (rowAt k .number) (valueAt l (octetsAt s) (rowAt k .number) (rowAt k .kind) k)
 row-field l s k row x d e = rw (e, ← d) refl
 
 module _ (l : FieldList) (s : List ℕ) where
   -- the fields of the rows before the k-th are counted
   abbrev pub Counted : ℕ → ℕ → Type 0
-  Counted k n = Sized (chainOctets fieldElement (upTo (fieldAt l s) k)) n
+  Counted k n = Sized (chainOctets fieldElement (upTo (fieldAt l (octetsAt s)) k)) n
 
   pub fields-start : Counted 0 0
   unfolding upTo
   fields-start = nothing
 
-  pub fields-more : (k n v e r : ℕ) (row : Row) (x : Value) → getD (l .present) k false ≡ true → ofRow row ≡ rowAt k → x ≡ valueAt l s (row .number) (ofKind (row .kind)) k → Counted k n
+  pub fields-more : (k n v e r : ℕ) (row : Row) (x : Value) → getD (l .present) k false ≡ true → ofRow row ≡ rowAt k → x ≡ valueAt l (octetsAt s) (row .number) (ofKind (row .kind)) k → Counted k n
       → Sized (valueElement x) v → e ≡ elementSize (row .number) v → r ≡ capped (n + e) → Counted (k + 1) r
   unfolding upTo fieldAt pick fieldElement
   fields-more k n v e r row x h d g c f q q₂ =
-      rw (add-one, h, ← row-field l s k row x d g) (chain-more fieldElement (upTo (fieldAt l s) k) _ n e r c (around 5 (row .number) v e (valueElement x) f q) q₂)
+      rw (add-one, h, ← row-field l s k row x d g) (chain-more fieldElement (upTo (fieldAt l (octetsAt s)) k) _ n e r c (around 5 (row .number) v e (valueElement x) f q) q₂)
 
   pub fields-skip : (k n : ℕ) → getD (l .present) k false ≡ false → Counted k n → Counted (k + 1) n
   unfolding upTo fieldAt pick
   fields-skip k n h c = rw (add-one, h, append-nil) c
 
-  pub fields-end : (k n : ℕ) → 42 ≤ k → k ≤ 42 → Counted k n → Sized (chainOctets fieldElement (fieldsOf l s)) n
+  pub fields-end : (k n : ℕ) → 42 ≤ k → k ≤ 42 → Counted k n → Sized (chainOctets fieldElement (fieldsOf l (octetsAt s))) n
   fields-end k n h g c = let z : k ≡ 42 = omega arith in rw z at c
 
 -- ---- the whole
@@ -289,19 +289,19 @@ module _ (r : Record) (s : List ℕ) where
   Head = headOctets (securityOctets (r .attestation .version) (r .attestation .level)) (securityOctets (r .keymint .version) (r .keymint .level)) (partOf s (r .challenge)) (partOf s (r .unique))
 
   -- the eight are the head and the two lists
-  pub eight-is : Head ++ (listElement (fieldsOf (r .software) s) ++ listElement (fieldsOf (r .hardware) s)) ≡ keyDescription (contentOf r s)
+  pub eight-is : Head ++ (listElement (fieldsOf (r .software) (octetsAt s)) ++ listElement (fieldsOf (r .hardware) (octetsAt s))) ≡ keyDescription (contentOf r s)
   unfolding headOctets securityOctets keyDescription
   eight-is = simp append-assoc
 
-  module _ (head software hardware a b lists n : ℕ) (e : Sized Head head) (f : Sized (chainOctets fieldElement (fieldsOf (r .software) s)) software)
-      (g : Sized (chainOctets fieldElement (fieldsOf (r .hardware) s)) hardware) (q : a ≡ elementSize 16 software) (q₂ : b ≡ elementSize 16 hardware)
+  module _ (head software hardware a b lists n : ℕ) (e : Sized Head head) (f : Sized (chainOctets fieldElement (fieldsOf (r .software) (octetsAt s))) software)
+      (g : Sized (chainOctets fieldElement (fieldsOf (r .hardware) (octetsAt s))) hardware) (q : a ≡ elementSize 16 software) (q₂ : b ≡ elementSize 16 hardware)
       (q₃ : lists ≡ capped (a + b)) (q₄ : n ≡ capped (head + lists)) where
     pub eight-sized : Sized (keyDescription (contentOf r s)) n
     unfolding listElement
     eight-sized =
         rw (← eight-is)
         (joined Head _ head lists n e
-        (joined (listElement (fieldsOf (r .software) s)) (listElement (fieldsOf (r .hardware) s)) a b lists (around 1 16 software a _ f q) (around 1 16 hardware b _ g q₂) q₃) q₄)
+        (joined (listElement (fieldsOf (r .software) (octetsAt s))) (listElement (fieldsOf (r .hardware) (octetsAt s))) a b lists (around 1 16 software a _ f q) (around 1 16 hardware b _ g q₂) q₃) q₄)
 
     pub whole-sized : (w : ℕ) → w ≡ elementSize 16 n → Sized (encode (contentOf r s)) w
     unfolding encode

@@ -10,7 +10,7 @@ use Rattle.codec.specs.Integer.{integerElement}
 use Rattle.codec.specs.Element.{chainOctets}
 use Rattle.schema.specs.Content.{enumeratedElement, octetsElement, fieldElement, keyDescription, encode}
 use Rattle.records.specs.declared.Record.{Record}
-use Rattle.records.specs.Content.{fieldsOf, contentOf}
+use Rattle.records.specs.Content.{octetsAt, fieldsOf, contentOf}
 use Rattle.writer.specs.declared.size.Sizes.{Sizes}
 
 -- the lesser of n and 8,193
@@ -35,7 +35,7 @@ headOctets attestation keymint challenge unique = attestation ++ (keymint ++ (oc
 
 -- each list's fields, the eight elements, and the whole
 pub record Measured (r : Record) (s : List ℕ) (z : Sizes) : Type 0 where
-  pub software : Sized (chainOctets fieldElement (fieldsOf (r .software) s)) (z .software)
-  pub hardware : Sized (chainOctets fieldElement (fieldsOf (r .hardware) s)) (z .hardware)
+  pub software : Sized (chainOctets fieldElement (fieldsOf (r .software) (octetsAt s))) (z .software)
+  pub hardware : Sized (chainOctets fieldElement (fieldsOf (r .hardware) (octetsAt s))) (z .hardware)
   pub eight : Sized (keyDescription (contentOf r s)) (z .eight)
   pub whole : Sized (encode (contentOf r s)) (z .whole)

@@ -24,7 +24,7 @@ ghost use Rattle.codec.specs.Header.{identifier, headerOctets};
 ghost use Rattle.codec.specs.Element.{chainOctets};
 ghost use Rattle.schema.specs.Rows.{ofKind};
 ghost use Rattle.schema.specs.Content.{enumeratedElement, octetsElement, booleanElement, rootContent, valueElement, fieldElement, listElement, encode, nums, trust, field};
-ghost use Rattle.records.specs.Content.{partOf, membersOf, rootOf, fieldsOf, contentOf};
+ghost use Rattle.records.specs.Content.{octetsAt, partOf, membersOf, rootOf, fieldsOf, contentOf};
 ghost use Rattle.writer.specs.Plain.{plainValue};
 ghost use Rattle.writer.specs.Size.{Sized, securityOctets, headOctets, Measured};
 ghost use Rattle.writer.specs.Put.{Puts};
@@ -140,7 +140,7 @@ fn put_set(out: &mut [u8], at: usize, g: NumberSet) -> usize
 
 // What RootOfTrust's SEQUENCE holds: key, locked, state and, where there is one, hash.
 fn put_root_content(out: &mut [u8], at: usize, s: &[u8], t: RootOfTrust) -> usize
-    ensures { λ r. ⌜ Puts (now (out .entry)) at (rootContent (rootOf (now (s .entry)) t)) (now (out .exit)) r ⌝ }
+    ensures { λ r. ⌜ Puts (now (out .entry)) at (rootContent (rootOf (octetsAt (now (s .entry))) t)) (now (out .exit)) r ⌝ }
 {
     let p = put_part(out, at, s, t.key);
     let q = put_boolean(out, p, t.locked);
@@ -152,7 +152,7 @@ fn put_root_content(out: &mut [u8], at: usize, s: &[u8], t: RootOfTrust) -> usiz
 }
 
 fn put_root(out: &mut [u8], at: usize, s: &[u8], t: RootOfTrust) -> usize
-    ensures { λ r. ⌜ Puts (now (out .entry)) at (valueElement (trust (rootOf (now (s .entry)) t))) (now (out .exit)) r ⌝ }
+    ensures { λ r. ⌜ Puts (now (out .entry)) at (valueElement (trust (rootOf (octetsAt (now (s .entry))) t))) (now (out .exit)) r ⌝ }
 {
     let size = root_content_size(s, t);
     let next = put_header(out, at, 1, 16, size);
@@ -192,7 +192,7 @@ fn put_set_field(out: &mut [u8], at: usize, number: usize, g: NumberSet) -> usiz
 // The context tag of a field around a root of trust.
 fn put_root_field(out: &mut [u8], at: usize, number: usize, s: &[u8], t: RootOfTrust) -> usize
     requires { ⌜ number < 16384 ⌝ }
-    ensures { λ r. ⌜ Puts (now (out .entry)) at (fieldElement (field number (trust (rootOf (now (s .entry)) t)))) (now (out .exit)) r ⌝ }
+    ensures { λ r. ⌜ Puts (now (out .entry)) at (fieldElement (field number (trust (rootOf (octetsAt (now (s .entry))) t)))) (now (out .exit)) r ⌝ }
 {
     let size = root_size(s, t);
     let next = put_header(out, at, 5, number, size);
@@ -219,7 +219,7 @@ fn put_plain_field(
 
 // The present fields of a list. The list is large: only a set's field copies it.
 fn put_fields(out: &mut [u8], at: usize, s: &[u8], l: FieldList) -> usize
-    ensures { λ r. ⌜ Puts (now (out .entry)) at (chainOctets fieldElement (fieldsOf l (now (s .entry)))) (now (out .exit)) r ⌝ }
+    ensures { λ r. ⌜ Puts (now (out .entry)) at (chainOctets fieldElement (fieldsOf l (octetsAt (now (s .entry))))) (now (out .exit)) r ⌝ }
 {
     let mut p = at;
     let mut place: usize = 0;
@@ -258,8 +258,8 @@ fn put_fields(out: &mut [u8], at: usize, s: &[u8], l: FieldList) -> usize
 
 // A list: its present fields, of which there are size octets.
 fn put_list(out: &mut [u8], at: usize, s: &[u8], l: FieldList, size: usize) -> usize
-    requires { ⌜ Sized (chainOctets fieldElement (fieldsOf l (now s))) size ⌝ }
-    ensures { λ r. ⌜ Puts (now (out .entry)) at (listElement (fieldsOf l (now (s .entry)))) (now (out .exit)) r ⌝ }
+    requires { ⌜ Sized (chainOctets fieldElement (fieldsOf l (octetsAt (now s)))) size ⌝ }
+    ensures { λ r. ⌜ Puts (now (out .entry)) at (listElement (fieldsOf l (octetsAt (now (s .entry))))) (now (out .exit)) r ⌝ }
 {
     let next = put_header(out, at, 1, 16, size);
     put_fields(out, next, s, l)

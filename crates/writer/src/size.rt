@@ -18,7 +18,7 @@ ghost use Rattle.codec.specs.Integer.{integerElement};
 ghost use Rattle.codec.specs.Element.{chainOctets};
 ghost use Rattle.schema.specs.Rows.{ofKind};
 ghost use Rattle.schema.specs.Content.{enumeratedElement, octetsElement, rootContent, valueElement, fieldElement, nums, trust};
-ghost use Rattle.records.specs.Content.{partOf, membersOf, rootOf, fieldsOf};
+ghost use Rattle.records.specs.Content.{octetsAt, partOf, membersOf, rootOf, fieldsOf};
 ghost use Rattle.writer.specs.Plain.{plainValue};
 ghost use Rattle.writer.specs.Size.{capped, elementSize, Sized, securityOctets, headOctets, Measured};
 
@@ -93,7 +93,7 @@ pub(crate) fn set_size(g: NumberSet) -> usize
 
 // What RootOfTrust's SEQUENCE holds.
 pub(crate) fn root_content_size(s: &[u8], t: RootOfTrust) -> usize
-    ensures { λ n. ⌜ Sized (rootContent (rootOf (now (s .entry)) t)) n ⌝ }
+    ensures { λ n. ⌜ Sized (rootContent (rootOf (octetsAt (now (s .entry))) t)) n ⌝ }
 {
     let key = part_size(s, t.key);
     let locked = add(key, 3);
@@ -105,7 +105,7 @@ pub(crate) fn root_content_size(s: &[u8], t: RootOfTrust) -> usize
 }
 
 pub(crate) fn root_size(s: &[u8], t: RootOfTrust) -> usize
-    ensures { λ n. ⌜ Sized (valueElement (trust (rootOf (now (s .entry)) t))) n ⌝ }
+    ensures { λ n. ⌜ Sized (valueElement (trust (rootOf (octetsAt (now (s .entry))) t))) n ⌝ }
 {
     element_size(16, root_content_size(s, t))
 }
@@ -130,7 +130,7 @@ pub(crate) fn plain_size(s: &[u8], kind: Kind, value: u64, size: u64) -> usize
 
 // The present fields of a list, without the list's header. The list is large: only a set's field copies it.
 fn fields_size(s: &[u8], l: FieldList) -> usize
-    ensures { λ n. ⌜ Sized (chainOctets fieldElement (fieldsOf l (now (s .entry)))) n ⌝ }
+    ensures { λ n. ⌜ Sized (chainOctets fieldElement (fieldsOf l (octetsAt (now (s .entry))))) n ⌝ }
 {
     let mut n: usize = 0;
     let mut place: usize = 0;

@@ -1,6 +1,6 @@
 -- `read` meets its contract: the first pass, and where it accepts, the schema over the same bytes. Assumes nothing.
 use Rattle.reader.proofs.Readings.{walk-no, walk-is, walk-sound, refused-empty}
-use Rattle.reader.proofs.Bounds.{refused-sound}
+use Rattle.reader.proofs.Bounds.{refused-sound, refused-made, kept-made}
 use borrow.Author.Needs.{needs}
 use Rattle.reader.proofs.read.Statement.{statement}
 use Rattle.reader.proofs.read.Tie as tie
@@ -24,10 +24,10 @@ read-description-requires : tie.Need-read-description-requires
 read-description-requires c κs = search needs
 
 returns : tie.Need-returns
-returns c = (search (walk-no, walk-is), (search (needs, refused-empty), search (refused-sound, walk-sound)))
+returns c = record { is = search walk-no; empty = search refused-empty; sound = search refused-sound; made = search refused-made }
 
 returns-2 : tie.Need-returns-2
-returns-2 c = (search (walk-no, walk-is), (search (needs, refused-empty), search (refused-sound, walk-sound)))
+returns-2 c = record { is = search walk-is; empty = search needs; sound = search walk-sound; made = search kept-made }
 
 pub read-spec : {M : Type 1} → statement M
 read-spec =

@@ -1,6 +1,6 @@
 -- `null_content` meets its contract: one NULL, and nothing after it. Assumes nothing.
 use Rattle.reader.proofs.Contents.{null-content-no, null-content-is}
-use Rattle.reader.proofs.Bounds.{plain-in}
+use Rattle.reader.proofs.Bounds.{none-in}
 use borrow.Author.Needs.{needs}
 use Rattle.reader.proofs.content.null_content.Statement.{statement}
 use Rattle.reader.proofs.content.null_content.Tie as tie
@@ -24,10 +24,10 @@ plain-requires-2 : tie.Need-plain-requires-2
 plain-requires-2 c κs = search needs
 
 returns : tie.Need-returns
-returns c = (search (null-content-no, null-content-is), search plain-in)
+returns c = (search (null-content-no, null-content-is), search none-in)
 
 returns-2 : tie.Need-returns-2
-returns-2 c = (search (null-content-no, null-content-is), search plain-in)
+returns-2 c = (search (null-content-no, null-content-is), search none-in)
 
 pub null-content-spec : {M : Type 1} → statement M
 null-content-spec =

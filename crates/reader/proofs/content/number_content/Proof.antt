@@ -1,6 +1,6 @@
 -- `number_content` meets its contract: one INTEGER within its top, and nothing after it. Assumes nothing.
 use Rattle.reader.proofs.Contents.{number-content-no, number-content-is}
-use Rattle.reader.proofs.Bounds.{plain-in}
+use Rattle.reader.proofs.Bounds.{none-in, number-in}
 use borrow.Author.Needs.{needs}
 use Rattle.reader.proofs.content.number_content.Statement.{statement}
 use Rattle.reader.proofs.content.number_content.Tie as tie
@@ -24,10 +24,10 @@ plain-requires-2 : tie.Need-plain-requires-2
 plain-requires-2 c κs = search needs
 
 returns : tie.Need-returns
-returns c = (search (number-content-no, number-content-is), search plain-in)
+returns c = (search (number-content-no, number-content-is), search (none-in, number-in))
 
 returns-2 : tie.Need-returns-2
-returns-2 c = (search (number-content-no, number-content-is), search plain-in)
+returns-2 c = (search (number-content-no, number-content-is), search (none-in, number-in))
 
 pub number-content-spec : {M : Type 1} → statement M
 number-content-spec =

@@ -1,6 +1,6 @@
 -- `octets_content` meets its contract: one OCTET STRING, and nothing after it. Assumes nothing.
 use Rattle.reader.proofs.Contents.{octets-content-no, octets-content-is}
-use Rattle.reader.proofs.Bounds.{plain-in, none-in, octets-in}
+use Rattle.reader.proofs.Bounds.{none-in, octets-in}
 use borrow.Author.Needs.{needs}
 use Rattle.reader.proofs.content.octets_content.Statement.{statement}
 use Rattle.reader.proofs.content.octets_content.Tie as tie
@@ -24,10 +24,10 @@ plain-requires-2 : tie.Need-plain-requires-2
 plain-requires-2 c κs = search needs
 
 returns : tie.Need-returns
-returns c = (search (octets-content-no, octets-content-is), (search plain-in, search (none-in, octets-in)))
+returns c = (search (octets-content-no, octets-content-is), search (none-in, octets-in))
 
 returns-2 : tie.Need-returns-2
-returns-2 c = (search (octets-content-no, octets-content-is), (search plain-in, search (none-in, octets-in)))
+returns-2 c = (search (octets-content-no, octets-content-is), search (none-in, octets-in))
 
 pub octets-content-spec : {M : Type 1} → statement M
 octets-content-spec =

@@ -1,6 +1,6 @@
 -- `root_content` meets its contract: one RootOfTrust, and nothing after it. Assumes nothing.
 use Rattle.reader.proofs.Contents.{root-content-no, root-content-is}
-use Rattle.reader.proofs.Bounds.{plain-in, root-in}
+use Rattle.reader.proofs.Bounds.{none-in, root-in}
 use borrow.Author.Needs.{needs}
 use Rattle.reader.proofs.content.root_content.Statement.{statement}
 use Rattle.reader.proofs.content.root_content.Tie as tie
@@ -24,10 +24,10 @@ empty-set-requires : tie.Need-empty-set-requires
 empty-set-requires c κs = search needs
 
 returns : tie.Need-returns
-returns c = (search (root-content-no, root-content-is), search plain-in)
+returns c = (search (root-content-no, root-content-is), search none-in)
 
 returns-2 : tie.Need-returns-2
-returns-2 c = (search root-content-is, search (plain-in, root-in))
+returns-2 c = (search root-content-is, search (none-in, root-in))
 
 pub root-content-spec : {M : Type 1} → statement M
 root-content-spec =

@@ -1,6 +1,6 @@
 -- `set_content` meets its contract: one SET, and nothing after it. Assumes nothing.
 use Rattle.reader.proofs.Contents.{set-content-no, set-content-is}
-use Rattle.reader.proofs.Bounds.{plain-in, set-in}
+use Rattle.reader.proofs.Bounds.{none-in, set-in}
 use borrow.Author.Needs.{needs}
 use Rattle.reader.proofs.content.set_content.Statement.{statement}
 use Rattle.reader.proofs.content.set_content.Tie as tie
@@ -24,10 +24,10 @@ empty-root-requires : tie.Need-empty-root-requires
 empty-root-requires c κs = search needs
 
 returns : tie.Need-returns
-returns c = (search (set-content-no, set-content-is), search plain-in)
+returns c = (search (set-content-no, set-content-is), search none-in)
 
 returns-2 : tie.Need-returns-2
-returns-2 c = (search set-content-is, search (plain-in, set-in))
+returns-2 c = (search set-content-is, search (none-in, set-in))
 
 pub set-content-spec : {M : Type 1} → statement M
 set-content-spec =
