@@ -54,3 +54,15 @@ pub pick-case {ℓ} : {A : Type 0} {X : Type ℓ} (b : Bool) (x y : A) {z : A} �
 unfolding pick
 pick-case true x y e f g = f tt e
 pick-case false x y e f g = g tt e
+
+-- ---- back, from a refusal
+
+pub guard-refuses {ℓ} : {A : Type 0} {X : Type ℓ} (b : Bool) (n p : ℕ) (m : Answer A) {k q : ℕ} → guard b n p m ≡ refused k q → (n ≡ k → X) → (T b → m ≡ refused k q → X) → X
+unfolding guard
+guard-refuses true n p m e f g = g tt e
+guard-refuses false n p m e f g = f cc
+
+pub bind-refuses {ℓ} : {A B : Type 0} {X : Type ℓ} (m : Answer A) (f : A → Answer B) {k q : ℕ} → bind m f ≡ refused k q → (m ≡ refused k q → X) → ((a : A) → m ≡ got a → f a ≡ refused k q → X) → X
+unfolding bind
+bind-refuses (got a) f e g h = h a refl e
+bind-refuses (refused n p) f e g h = g (refused-as e)

@@ -10,3 +10,5 @@ pub mod Tree
 pub mod Walks
 pub mod Follow
 pub mod Encoded
+pub mod Ranges
+pub mod Refusals
