@@ -8,7 +8,7 @@ mod leaf;
 mod root;
 mod set;
 
-use crate::eight::empty_record;
+pub use crate::eight::empty_record;
 use crate::eight::read_eight;
 use crate::element::Tagged;
 use crate::element::open_tagged;

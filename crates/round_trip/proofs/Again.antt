@@ -8,19 +8,22 @@ use mir.Syntax.{w8}
 use lib.ListN.{length, getD, take}
 use lib.Seq.{length-take-le}
 use lib.Dec.{leb, le→leb}
-use Rattle.answer.specs.Answer.{Answer, got, refused, guard, bind}
+use Rattle.answer.specs.Answer.{Answer, got, refused, guard, bind, mapAnswer}
 use Rattle.answer.proofs.Answer.{guard-yes}
 use Rattle.answer.proofs.Logic.{and-both}
-use Rattle.codec.specs.Octets.{left}
 use Rattle.codec.proofs.Splice.{length-splice}
+use Rattle.codec.specs.Octets.{Octets, left}
 use Rattle.schema.specs.Decode.{read}
+use Rattle.schema.proofs.Places.{octets-at-places}
 use Rattle.schema.specs.Count.{countOf}
 use Rattle.records.specs.Content.{contentOf}
+use Rattle.records.specs.Empty.{emptyRecord}
+use Rattle.records.proofs.PlacesRead.{places-read}
 use Rattle.records.specs.Shape.{wellShapedRecord}
 use Rattle.records.specs.Equal.{Equal}
 use Rattle.records.specs.declared.Record.{Record}
 use Rattle.reader.specs.declared.Outcome.{Outcome}
-use Rattle.reader.specs.Reading.{ofReading, RefusedEmpty, AcceptedSound, Reads}
+use Rattle.reader.specs.Reading.{Reads}
 use Rattle.reader.proofs.Spelled.{octets-all}
 use Rattle.writer.specs.declared.Written.{Written}
 use Rattle.writer.specs.Written.{encodingOf, writable, ofWritten, written, leftBy, Writes}
@@ -29,11 +32,16 @@ use Rattle.round_trip.specs.Again.{writtenAgain, ReadAgain}
 
 -- ---- write(read(s)) is s
 
-module _ (s out : List ℕ) (o : Outcome) (r : Record) (is : ofReading s o r ≡ read s) where
+-- a read that is refused, or accepted, as the definition over octets has it
+octets-refused : (s : List ℕ) (r : Record) (k p : ℕ) → Octets s → Reads s (Outcome.Refused k p) r → read s ≡ refused k p
+unfolding mapAnswer
+octets-refused s r k p o g = octets-at-places s o ∙ rw (← g .is) refl
+
+module _ (s out : List ℕ) (o : Outcome) (r : Record) (g : Reads s o r) (f : (k : ℕ) → Fits w8 (getD s k 0)) where
   module _ (k p : ℕ) (w : o ≡ Outcome.Refused k p) where
     refusal : writtenAgain s out ≡ refused k p
     unfolding writtenAgain bind
-    refusal = rw (← is, w) refl
+    refusal = rw (octets-refused s r k p (octets-all s f) (subst (λ (x : Outcome). Reads s x r) w g)) refl
 
     pub refused-again : refused k p ≡ writtenAgain s out
     refused-again = sym refusal
@@ -41,9 +49,9 @@ module _ (s out : List ℕ) (o : Outcome) (r : Record) (is : ofReading s o r ≡
     pub untouched-again : out ≡ left (writtenAgain s out) out 0 s
     untouched-again = rw refusal refl
 
-  module _ (f : (k : ℕ) → Fits w8 (getD s k 0)) (empty : RefusedEmpty o r) (sound : AcceptedSound (length s) o r) (n : ℕ) (w : o ≡ Outcome.Accepted n) where
+  module _ (n : ℕ) (w : o ≡ Outcome.Accepted n) where
     reads : Reads s (Outcome.Accepted n) r
-    reads = subst (λ (x : Outcome). Reads s x r) w (record { is = is; empty = empty; sound = sound })
+    reads = subst (λ (x : Outcome). Reads s x r) w g
 
     same : encodingOf r s ≡ s
     same = read-encodable s r n (octets-all s f) reads .1
@@ -54,7 +62,7 @@ module _ (s out : List ℕ) (o : Outcome) (r : Record) (is : ofReading s o r ≡
         let h = read-encodable s r n (octets-all s f) reads .0 in
         guard-yes (writable r s) 20 0 _ (and-both (wellShapedRecord r) _ (h .shaped) (h .inside))
         ∙ guard-yes (leb (length (encodingOf r s)) 8192) 22 0 _ (le→leb (length (encodingOf r s)) 8192 (h .short))
-        ∙ rw (same, ← is, w) refl
+        ∙ rw (same, places-read r s n (octets-all s f) (sym (reads .is))) refl
 
     pub wrote-again : (v : Written) → ofWritten v ≡ written r s out → ofWritten v ≡ writtenAgain s out
     wrote-again v e = e ∙ again
@@ -65,8 +73,8 @@ module _ (s out : List ℕ) (o : Outcome) (r : Record) (is : ofReading s o r ≡
 -- ---- read(write(r)) equals r
 
 module _ (r : Record) (s out after : List ℕ) (v : Written) (answer : ofWritten v ≡ written r s out) (output : after ≡ leftBy r s out) where
-  pub write-refused : (k p : ℕ) → v ≡ Written.Refused k p → ReadAgain r s (written r s out) after (Outcome.Refused k p) r
-  write-refused k p w = rw (← answer, w) (refl, refl)
+  pub write-refused : (k p : ℕ) (e : Record) → v ≡ Written.Refused k p → e ≡ emptyRecord → ReadAgain r s (written r s out) after (Outcome.Refused k p) e
+  write-refused k p e w q = rw (← answer, w) (refl, q)
 
   module _ (f : (k : ℕ) → Fits w8 (getD s k 0)) (n : ℕ) (w : v ≡ Written.Wrote n) where
     writes : Writes r s out (Written.Wrote n) after
@@ -82,5 +90,5 @@ module _ (r : Record) (s out after : List ℕ) (v : Written) (answer : ofWritten
     pub wrote-whole : n ≡ length (take n after)
     wrote-whole = sym (length-take-le n after wrote-fits)
 
-    pub read-back : (o : Outcome) (g : Record) → ofReading (take n after) o g ≡ read (take n after) → RefusedEmpty o g → AcceptedSound (length (take n after)) o g → ReadAgain r s (written r s out) after o g
-    read-back o g is empty sound = rw (← answer, w) (read-of-write r g s out after n o (octets-all s f) writes (record { is = is; empty = empty; sound = sound }))
+    pub read-back : (o : Outcome) (g : Record) → Reads (take n after) o g → ReadAgain r s (written r s out) after o g
+    read-back o g i = rw (← answer, w) (let e = read-of-write r g s out after n o (octets-all s f) writes i in (i, e .0, e .1))

@@ -2,6 +2,7 @@
 // from those of `read` and `write` and the theorems of one_record alone.
 use reader::Outcome;
 use reader::Reading;
+use reader::empty_record;
 use records::Record;
 use writer::Written;
 ghost use mathlib.Core.Path.{_≡_};
@@ -24,7 +25,7 @@ pub fn write_again(s: &[u8], out: &mut [u8]) -> Written
 }
 
 // Writes a record and reads it back from the output: an equal one. Where the write is refused, so is this, and the record
-// beside it is the one that was given.
+// beside it says nothing.
 pub fn read_again(r: Record, s: &[u8], out: &mut [u8]) -> Reading
     ensures answer { λ a. ⌜ ReadAgain r (now (s .entry)) (written r (now (s .entry)) (now (out .entry))) (now (out .exit)) (a .outcome) (a .said) ⌝ }
     ensures output { λ a. ⌜ now (out .exit) ≡ leftBy r (now (s .entry)) (now (out .entry)) ⌝ }
@@ -32,7 +33,7 @@ pub fn read_again(r: Record, s: &[u8], out: &mut [u8]) -> Reading
     match writer::write(r, s, out) {
         Written::Refused(number, place) => Reading {
             outcome: Outcome::Refused(number, place),
-            said: r,
+            said: empty_record(),
         },
         Written::Wrote(n) => reader::read(&out[..n]),
     }

@@ -10,6 +10,9 @@ write-requires c κs = search needs
 enum-known-number : tie.Need-enum-known-number
 enum-known-number c = search needs
 
+empty-record-requires : tie.Need-empty-record-requires
+empty-record-requires c κs = search needs
+
 enum-known-n : tie.Need-enum-known-n
 enum-known-n c = search needs
 
@@ -40,6 +43,7 @@ read-again-spec =
     (tie.spec
     write-requires
     enum-known-number
+    empty-record-requires
     enum-known-n
     slice-reshare-prefix-read
     slice-aggregate-read
