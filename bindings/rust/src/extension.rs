@@ -236,16 +236,17 @@ impl Extension {
     /// Rules on a use. Refusals 30 to 46.
     ///
     /// ```
-    /// # use sculldrip::{Digest, Extension, Padding, Purpose, Request};
+    /// # use sculldrip::{Clock, Digest, Extension, Padding, Purpose, Request};
     /// # let extension = Extension::read(&sculldrip::SAMPLE)?;
-    /// let (purpose, digest, padding) = (Purpose::SIGN, Digest::SHA_2_256, Padding::NONE);
-    /// let (clock, clock_floor) = (1609459200000, 1600000000000);
-    /// let request = Request { purpose, digest, padding, clock, clock_floor, ..Default::default() };
+    /// let request = Request::new(Clock { now: 1609459200000, floor: 1600000000000 })
+    ///     .purpose(Purpose::SIGN)
+    ///     .digest(Digest::SHA_2_256)
+    ///     .padding(Padding::NONE);
     /// let permit = extension.rule(&request)?;
     /// assert_eq!((permit.hardware.bits, permit.hardware.count, permit.software.bits), (32783, 5, 32));
     ///
-    /// let dead_clock = Request { clock: 0, ..request };
-    /// assert_eq!(extension.rule(&dead_clock).unwrap_err().number, 36);
+    /// let dead_battery = request.clock(Clock { now: 0, floor: 1600000000000 });
+    /// assert_eq!(extension.rule(&dead_battery).unwrap_err().number, 36);
     /// # Ok::<(), sculldrip::Refusal>(())
     /// ```
     pub fn rule(&self, request: &Request) -> Result<Permit, Refusal> {

@@ -185,8 +185,9 @@ impl Record {
     /// Rules on a use. Refusals 20 and 30 to 46.
     ///
     /// ```
-    /// # use sculldrip::{Record, Request};
-    /// assert_eq!(Record::new(3).rule(&Request::default()).unwrap_err().number, 30);
+    /// # use sculldrip::{Clock, Purpose, Record, Request};
+    /// let request = Request::new(Clock { now: 1609459200000, floor: 1600000000000 }).purpose(Purpose::SIGN);
+    /// assert_eq!(Record::new(3).rule(&request).unwrap_err().number, 31); // no list allows it
     /// ```
     pub fn rule(&self, request: &Request) -> Result<Permit, Refusal> {
         calls::rule(&self.image, request)

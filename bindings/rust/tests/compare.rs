@@ -502,26 +502,21 @@ fn expected_challenge(record: &Record, buffer: &[u8], random: &mut Random) -> Ve
 
 /// The request as the crate takes it. A token that is not there has nothing.
 fn typed(request: &Request) -> sculldrip::Request {
+    let typed = sculldrip::Request::new(sculldrip::Clock { now: request.clock, floor: request.floor })
+        .purpose(sculldrip::Purpose(request.purpose))
+        .digest(sculldrip::Digest(request.digest))
+        .padding(sculldrip::Padding(request.padding))
+        .device_locked(request.locked)
+        .user_present(request.present)
+        .user_confirmed(request.confirmed)
+        .early_boot_over(request.early_boot_over)
+        .uses_so_far(request.uses);
     let token = request.token;
-    sculldrip::Request {
-        purpose: sculldrip::Purpose(request.purpose),
-        digest: sculldrip::Digest(request.digest),
-        padding: sculldrip::Padding(request.padding),
-        clock: request.clock,
-        clock_floor: request.floor,
-        uptime: request.uptime,
-        operation_handle: request.handle,
-        token: token.there.then_some(sculldrip::Token {
-            type_bits: token.kind,
-            uptime: token.time,
-            challenge: token.challenge,
-        }),
-        device_locked: request.locked,
-        user_present: request.present,
-        user_confirmed: request.confirmed,
-        early_boot_over: request.early_boot_over,
-        uses_so_far: request.uses,
+    if !token.there {
+        return typed;
     }
+    let operation = sculldrip::Operation { uptime: request.uptime, handle: request.handle };
+    typed.token(sculldrip::Token { type_bits: token.kind, uptime: token.time, challenge: token.challenge }, operation)
 }
 
 /// The fields that the crate hands out, as numbers and texts.
