@@ -23,14 +23,18 @@ mod calls;
 mod extension;
 mod field;
 mod image;
+mod list;
 mod record;
 mod refusal;
+#[rustfmt::skip] // it is written by a script
+mod refusals;
 mod request;
 pub mod sys;
 
-pub use extension::{BootState, Extension, Fields, Level, RootOfTrust};
-pub use field::{FlagField, List, NumberField, OctetField, SetField};
-pub use record::Record;
+pub use extension::Extension;
+pub use field::{FlagField, NumberField, OctetField, SetField};
+pub use list::{BootState, Fields, List, RootOfTrust, Value};
+pub use record::{Level, Record};
 pub use refusal::Refusal;
 pub use request::{Clock, Digest, Mark, Operation, Padding, Permit, Purpose, Request, Rule, Token};
 

@@ -383,11 +383,11 @@ mod tests {
     /// A key that may sign, and for which one thing more is asked.
     fn key() -> Record {
         Record::new(300)
-            .set(List::Hardware, SetField::Purpose, &[2])
-            .number(List::Hardware, NumberField::Algorithm, 3)
-            .set(List::Hardware, SetField::Digest, &[0, 4])
-            .set(List::Hardware, SetField::Padding, &[1])
-            .flag(List::Hardware, FlagField::NoAuthRequired)
+            .with_set(List::Hardware, SetField::Purpose, &[2])
+            .with_number(List::Hardware, NumberField::Algorithm, 3)
+            .with_set(List::Hardware, SetField::Digest, &[0, 4])
+            .with_set(List::Hardware, SetField::Padding, &[1])
+            .with_flag(List::Hardware, FlagField::NoAuthRequired)
     }
 
     fn refused(key: Record, request: Request) -> u8 {
@@ -404,11 +404,11 @@ mod tests {
         assert_eq!(refused(key(), unsaid), 30);
         assert_eq!(refused(key(), sign), 33);
         assert_eq!(refused(key(), padded), 34);
-        assert_eq!(refused(key().number(List::Software, NumberField::AuthType, u32::MAX.into()), whole), 40);
-        assert_eq!(refused(key().flag(List::Software, FlagField::UnlockedDeviceRequired), whole), 42);
-        assert_eq!(refused(key().flag(List::Software, FlagField::PresenceRequired), whole), 43);
-        assert_eq!(refused(key().flag(List::Software, FlagField::ConfirmationRequired), whole), 44);
-        assert_eq!(refused(key().flag(List::Software, FlagField::EarlyBootOnly), whole), 45);
-        assert_eq!(refused(key().number(List::Software, NumberField::UseLimit, u32::MAX.into()), whole), 46);
+        assert_eq!(refused(key().with_number(List::Software, NumberField::AuthType, u32::MAX.into()), whole), 40);
+        assert_eq!(refused(key().with_flag(List::Software, FlagField::UnlockedDeviceRequired), whole), 42);
+        assert_eq!(refused(key().with_flag(List::Software, FlagField::PresenceRequired), whole), 43);
+        assert_eq!(refused(key().with_flag(List::Software, FlagField::ConfirmationRequired), whole), 44);
+        assert_eq!(refused(key().with_flag(List::Software, FlagField::EarlyBootOnly), whole), 45);
+        assert_eq!(refused(key().with_number(List::Software, NumberField::UseLimit, u32::MAX.into()), whole), 46);
     }
 }

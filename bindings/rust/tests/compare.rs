@@ -21,7 +21,7 @@ use sculldrip::{sys, Extension, FlagField, List, NumberField, OctetField, SetFie
 const DEFAULT_INPUTS: u64 = 200_000;
 const DEFAULT_SEED: u64 = 1;
 const MOST_DIFFERENCES: usize = 20;
-const SHORT: u64 = sys::SHORT_IMAGE as u64;
+const SHORT: u64 = sculldrip::Refusal::SHORT_IMAGE as u64;
 const FILL: u64 = 0xa5a5_a5a5_a5a5_a5a5;
 
 fn setting(name: &str, default: u64) -> u64 {
@@ -195,7 +195,7 @@ impl Comparison {
     }
 
     fn check_list(&mut self, bytes: &[u8], random: &mut Random) {
-        let needed = sys::LISTING_BYTES + sys::LISTING_BYTES_A_BYTE * bytes.len();
+        let needed = 32_768 + 56 * bytes.len();
         let room = match random.below(40) {
             0 => needed - 1,
             1 => random.below(needed),
@@ -352,6 +352,7 @@ impl Comparison {
         self.check("crate: written again", extension.write().as_deref() == Ok(bytes), &input);
         let written = extension.to_record().write();
         self.check("crate: written as a record", written.as_deref() == Ok(bytes), &input);
+        self.check("crate: equal to a copy", rebuilt(&extension) == extension.to_record(), &input);
         for (list, is_hardware) in [(List::Software, false), (List::Hardware, true)] {
             let got = fields_of(&extension, list);
             let want: Vec<(u64, String)> =
@@ -521,25 +522,40 @@ fn typed(request: &Request) -> sculldrip::Request {
 
 /// The fields that the crate hands out, as numbers and texts.
 fn fields_of(extension: &Extension, list: List) -> Vec<(u64, String)> {
-    let fields = extension.list(list);
-    let mut found: Vec<(u64, String)> = Vec::new();
-    let mut add = |number: u16, text: Option<String>| found.extend(text.map(|text| (u64::from(number), text)));
-    for &field in SetField::ALL {
-        add(field.number(), fields.set(field).map(|members| format!("{members:?}")));
+    let text = |value: sculldrip::Value<'_>| match value {
+        sculldrip::Value::Set(members) => format!("{members:?}"),
+        sculldrip::Value::Number(number) => number.to_string(),
+        sculldrip::Value::Flag => "yes".to_string(),
+        sculldrip::Value::Octets(octets) => hex(octets),
+        sculldrip::Value::RootOfTrust(root) => root_text(root.key, root.locked, root.state as u64, root.hash),
+    };
+    extension.list(list).all().into_iter().map(|(number, value)| (u64::from(number), text(value))).collect()
+}
+
+/// The record of an extension, set up anew field by field.
+fn rebuilt(extension: &Extension) -> sculldrip::Record {
+    let mut record = sculldrip::Record::new(extension.version())
+        .with_level(extension.level())
+        .with_keymint(extension.keymint_version(), extension.keymint_level())
+        .with_unique_id(extension.unique_id())
+        .with_challenge(extension.challenge());
+    for list in [List::Software, List::Hardware] {
+        let fields = extension.list(list);
+        for &field in SetField::ALL {
+            record = fields.set(field).into_iter().fold(record, |record, members| record.with_set(list, field, &members));
+        }
+        for &field in NumberField::ALL {
+            record = fields.number(field).into_iter().fold(record, |record, number| record.with_number(list, field, number));
+        }
+        for &field in FlagField::ALL.iter().filter(|&&field| fields.flag(field)) {
+            record = record.with_flag(list, field);
+        }
+        for &field in OctetField::ALL {
+            record = fields.octets(field).into_iter().fold(record, |record, octets| record.with_octets(list, field, octets));
+        }
+        record = fields.root_of_trust().into_iter().fold(record, |record, root| record.with_root_of_trust(list, root));
     }
-    for &field in NumberField::ALL {
-        add(field.number(), fields.number(field).map(|number| number.to_string()));
-    }
-    for &field in FlagField::ALL {
-        add(field.number(), fields.flag(field).then(|| "yes".to_string()));
-    }
-    for &field in OctetField::ALL {
-        add(field.number(), fields.octets(field).map(hex));
-    }
-    let root = fields.root_of_trust();
-    add(704, root.map(|root| root_text(root.key, root.locked, root.state as u64, root.hash)));
-    found.sort();
-    found
+    record
 }
 
 fn text_of(value: &Value, bytes: &[u8]) -> String {
