@@ -461,15 +461,17 @@ static inline int sculldrip_root_of_trust(const uint64_t *image, unsigned list, 
  * What answers an int answers 1, or 0 where the row is of another kind, and then the image stays as it was. Anything can be
  * put: sculldrip_write, rule and enrol refuse what is not well-shaped with 20. */
 
-/* A record of a version that says nothing: Software levels, KeyMint version 0, empty octets and empty lists. */
-static inline void sculldrip_clear(uint64_t *image, uint32_t version) {
+/* A record that says nothing: version 0, which there is none of, Software levels, empty octets and empty lists. */
+static inline void sculldrip_clear(uint64_t *image) {
     size_t i;
     for (i = 0; i < SCULLDRIP_IMAGE_WORDS; i++)
         image[i] = 0;
-    image[SCULLDRIP_AT_VERSION] = version;
 }
 
-static inline void sculldrip_put_level(uint64_t *image, uint32_t level) { image[SCULLDRIP_AT_LEVEL] = level; }
+static inline void sculldrip_put_attestation(uint64_t *image, uint32_t version, uint32_t level) {
+    image[SCULLDRIP_AT_VERSION] = version;
+    image[SCULLDRIP_AT_LEVEL] = level;
+}
 static inline void sculldrip_put_keymint(uint64_t *image, uint32_t version, uint32_t level) {
     image[SCULLDRIP_AT_KEYMINT_VERSION] = version;
     image[SCULLDRIP_AT_KEYMINT_LEVEL] = level;

@@ -99,8 +99,8 @@ static void copy_field(const uint64_t *image, unsigned list, unsigned row, uint6
  * read leaves 0 in what is absent. */
 static int copies_the_same(const uint64_t *image) {
     uint64_t copy[SCULLDRIP_IMAGE_WORDS];
-    sculldrip_clear(copy, sculldrip_attestation_version(image));
-    sculldrip_put_level(copy, sculldrip_attestation_level(image));
+    sculldrip_clear(copy);
+    sculldrip_put_attestation(copy, sculldrip_attestation_version(image), sculldrip_attestation_level(image));
     sculldrip_put_keymint(copy, sculldrip_keymint_version(image), sculldrip_keymint_level(image));
     sculldrip_put_challenge(copy, sculldrip_challenge(image));
     sculldrip_put_unique_id(copy, sculldrip_unique_id(image));

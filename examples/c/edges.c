@@ -31,7 +31,8 @@ static void lend_nothing(void) {
     uint64_t part[SCULLDRIP_PART_WORDS];
     uint8_t output[64];
     const uint8_t byte = 0x30;
-    sculldrip_clear(image, 3);
+    sculldrip_clear(image);
+    sculldrip_put_attestation(image, 3, SCULLDRIP_LEVEL_SOFTWARE);
     sculldrip_strict_request(request);
     expect("read, no extension", sculldrip_read(NULL, 0, image, SCULLDRIP_IMAGE_WORDS), SCULLDRIP_REFUSED_RUNS_OUT, 0);
     expect("read, no image", sculldrip_read(&byte, 1, NULL, 0), SCULLDRIP_REFUSED_SHORT_IMAGE, 0);
@@ -70,7 +71,8 @@ static unsigned unsaid(unsigned row, uint64_t number) {
     static const uint32_t sign[] = {SCULLDRIP_PURPOSE_SIGN}, digest[] = {SCULLDRIP_DIGEST_SHA_2_256},
                           padding[] = {SCULLDRIP_PADDING_NONE};
     uint64_t image[SCULLDRIP_IMAGE_WORDS], request[SCULLDRIP_REQUEST_WORDS], permit[SCULLDRIP_PERMIT_WORDS];
-    sculldrip_clear(image, 300);
+    sculldrip_clear(image);
+    sculldrip_put_attestation(image, 300, SCULLDRIP_LEVEL_TRUSTED_ENVIRONMENT);
     sculldrip_put_set(image, SCULLDRIP_HARDWARE, SCULLDRIP_ROW_PURPOSE, sign, 1);
     sculldrip_put_set(image, SCULLDRIP_HARDWARE, SCULLDRIP_ROW_DIGEST, digest, 1);
     sculldrip_put_set(image, SCULLDRIP_HARDWARE, SCULLDRIP_ROW_PADDING, padding, 1);
