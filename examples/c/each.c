@@ -29,8 +29,9 @@ static void *lend(size_t bytes) {
     return buffer;
 }
 
-static void list(const uint8_t *extension, size_t length) {
-    size_t room = 32768 + 56 * length;
+/* Into just the room that the header asks for. */
+static void list(const uint8_t *extension, size_t length, int is_accepted) {
+    size_t room = is_accepted ? 32768 + 56 * length : SCULLDRIP_REFUSED_LISTING_BYTES;
     uint8_t *text = lend(room);
     uint64_t answer = sculldrip_list(extension, length, text, room);
     if (sculldrip_number(answer) == 0)
@@ -123,9 +124,10 @@ static int writes_the_same(const uint64_t *image, const uint8_t *extension, size
 
 static int try(const uint8_t *extension, size_t length) {
     uint64_t *image = lend(SCULLDRIP_IMAGE_WORDS * sizeof *image);
+    int is_accepted = sculldrip_number(sculldrip_read(extension, length, image, SCULLDRIP_IMAGE_WORDS)) == 0;
     int is_well = 1;
-    list(extension, length);
-    if (sculldrip_number(sculldrip_read(extension, length, image, SCULLDRIP_IMAGE_WORDS)) == 0) {
+    list(extension, length, is_accepted);
+    if (is_accepted) {
         rule(image);
         struct sculldrip_part challenge = sculldrip_challenge(image);
         sculldrip_enrol(image, SCULLDRIP_IMAGE_WORDS, extension, length, extension + challenge.start,

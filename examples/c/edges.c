@@ -1,5 +1,5 @@
-/* edges: what the header says of calls that lend nothing, of a request that says nothing, and of numbers that have no row,
- * tried. It answers 0 where all of it holds.
+/* edges: what the header says of calls that lend nothing, of a listing's room, of words that are not looked at, of a request
+ * that says nothing, and of numbers that have no row, tried. It answers 0 where all of it holds.
  *
  *   gcc -Wall -Wextra -Werror -Iinclude examples/c/edges.c target/staticlib/libsculldrip.a -o target/edges && target/edges */
 #include <stdio.h>
@@ -59,11 +59,49 @@ static void lend_nothing(void) {
     expect("list, no text", sculldrip_list(&byte, 1, NULL, 0), SCULLDRIP_REFUSED_OUTPUT_SHORT, 0);
 }
 
-/* A list of nothing is a refusal's. */
-static void list_nothing(void) {
-    static uint8_t text[SCULLDRIP_LISTING_BYTES];
+/* The listing of nothing is a refusal's, and so is that of anything too long, whatever its length: neither asks for more
+ * than a refusal does. */
+static void list_refusals(void) {
+    static const uint8_t too_long[100000];
+    uint8_t text[SCULLDRIP_REFUSED_LISTING_BYTES];
     expect("list, no extension", sculldrip_list(NULL, 0, text, sizeof text), 0, strlen("refused 2 at 0\n"));
     expect_true("list, no extension: the text", memcmp(text, "refused 2 at 0\n", 15) == 0);
+    expect("list, too long", sculldrip_list(too_long, sizeof too_long, text, sizeof text), 0, strlen("refused 1 at 0\n"));
+    expect("list, little room", sculldrip_list(NULL, 0, text, sizeof text - 1), SCULLDRIP_REFUSED_OUTPUT_SHORT, 0);
+}
+
+/* The listing of what is accepted asks for 32,768 bytes and 56 for each of its own. */
+static void list_record(void) {
+    static uint8_t text[SCULLDRIP_LISTING_BYTES];
+    uint64_t image[SCULLDRIP_IMAGE_WORDS];
+    uint8_t output[64];
+    size_t length;
+    sculldrip_clear(image);
+    sculldrip_put_attestation(image, 3, SCULLDRIP_LEVEL_SOFTWARE);
+    length = (size_t)sculldrip_rest(sculldrip_write(image, SCULLDRIP_IMAGE_WORDS, NULL, 0, output, sizeof output));
+    expect("list, just enough room", sculldrip_list(output, length, text, 32768 + 56 * length), 0,
+           strlen("version 3 level 0\nkeymint 0 level 0\nchallenge -\nunique -\nelements 9\n"));
+    expect("list, too little room", sculldrip_list(output, length, text, 32768 + 56 * length - 1),
+           SCULLDRIP_REFUSED_OUTPUT_SHORT, 0);
+}
+
+/* Words of absent fields are not looked at, nor are slots past a count: an image without any field is well-shaped whatever
+ * else it holds, and so is one with an empty set. */
+static void look_away(void) {
+    const struct sculldrip_part empty = {0, 0};
+    uint64_t image[SCULLDRIP_IMAGE_WORDS];
+    uint8_t output[64];
+    unsigned row;
+    memset(image, 0xff, sizeof image);
+    sculldrip_put_attestation(image, 3, SCULLDRIP_LEVEL_SOFTWARE);
+    sculldrip_put_keymint(image, 4, SCULLDRIP_LEVEL_SOFTWARE);
+    sculldrip_put_challenge(image, empty);
+    sculldrip_put_unique_id(image, empty);
+    for (row = 0; row < 2 * SCULLDRIP_ROWS; row++)
+        sculldrip_remove(image, row % 2, row / 2);
+    expect("write, no field", sculldrip_write(image, SCULLDRIP_IMAGE_WORDS, NULL, 0, output, sizeof output), 0, 22);
+    sculldrip_put_set(image, SCULLDRIP_HARDWARE, SCULLDRIP_ROW_DIGEST, NULL, 0);
+    expect("write, an empty set", sculldrip_write(image, SCULLDRIP_IMAGE_WORDS, NULL, 0, output, sizeof output), 0, 26);
 }
 
 /* A key whose one rule of this number is not met by a request that says only what the key's own lists ask. */
@@ -115,7 +153,9 @@ static void name_everything(void) {
 
 int main(void) {
     lend_nothing();
-    list_nothing();
+    list_refusals();
+    list_record();
+    look_away();
     say_nothing();
     name_everything();
 #ifdef SCULLDRIP_TRY_VERSION /* scripts/test_library sets it where the library exports its version */

@@ -14,7 +14,7 @@ use std::io::Write;
 use generator::records::Stored;
 use generator::{extensions, images, records, requests, Random};
 use reference::rule::{rule, Permit, Request};
-use reference::{enrol::enrol, image, listing::listing, model, read::read, table, write::write};
+use reference::{enrol::enrol, image, listing::listing, listing::room, model, read::read, table, write::write};
 use reference::{Part, Record, Refusal, Value};
 use sculldrip::{sys, Extension, FlagField, List, NumberField, OctetField, SetField};
 
@@ -195,7 +195,7 @@ impl Comparison {
     }
 
     fn check_list(&mut self, bytes: &[u8], random: &mut Random) {
-        let needed = 32_768 + 56 * bytes.len();
+        let needed = room(bytes);
         let room = match random.below(40) {
             0 => needed - 1,
             1 => random.below(needed),
