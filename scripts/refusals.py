@@ -89,14 +89,16 @@ def header(rows):
 
 
 def rust(rows):
-    names = ["    /// %d, %s.\n    pub const %s: u8 = %d;" % (n, row["name"], constant(row["name"]), n) for n, row in rows.items()]
+    name = "    /// %d, %s.\n    pub const %s: u8 = %d;"
+    names = [name % (n, row["name"], constant(row["name"]), n) for n, row in rows.items()]
     cells = "".join(
         "    (\n        %d,\n        %s,\n    ),\n"
         % (n, ",\n        ".join(rust_string(row[what], 8) for what in ("name", "sentence", "advice")))
         for n, row in rows.items()
     )
     return "\n".join([
-        "//! The refusals' names, and what is to be said of them. Written by scripts/refusals.py from %s: change it there." % SOURCE,
+        "//! The refusals' names, and what is to be said of them.",
+        "//! Written by scripts/refusals.py from %s: change it there." % SOURCE,
         "",
         "use crate::refusal::Refusal;",
         "",

@@ -117,7 +117,8 @@ static int writes_the_same(const uint64_t *image, const uint8_t *extension, size
     int is_same = sculldrip_number(answer) == 0 && sculldrip_rest(answer) == length && memcmp(output, extension, length) == 0;
     free(output);
     output = lend(length - 1);
-    is_same = is_same && sculldrip_write(image, SCULLDRIP_IMAGE_WORDS, extension, length, output, length - 1) == SCULLDRIP_REFUSED_OUTPUT_SHORT;
+    answer = sculldrip_write(image, SCULLDRIP_IMAGE_WORDS, extension, length, output, length - 1);
+    is_same = is_same && answer == SCULLDRIP_REFUSED_OUTPUT_SHORT;
     free(output);
     return is_same;
 }

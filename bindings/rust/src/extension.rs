@@ -37,7 +37,7 @@ impl Extension {
     /// Reads any bytes. Refusals 1 to 14.
     ///
     /// ```
-    /// assert_eq!(sculldrip::Extension::read(&[0x30, 0x80]).unwrap_err().number, 4);
+    /// assert_eq!(sculldrip::Extension::read(&[0x30, 0x80]).unwrap_err().number, sculldrip::Refusal::BAD_LENGTH);
     /// ```
     pub fn read(bytes: &[u8]) -> Result<Extension, Refusal> {
         let mut image = Image::new();
@@ -171,7 +171,7 @@ impl Extension {
     /// assert_eq!((permit.hardware.bits, permit.hardware.count, permit.software.bits), (32783, 5, 32));
     ///
     /// let dead_battery = request.clock(Clock { now: 0, floor: 1600000000000 });
-    /// assert_eq!(extension.rule(&dead_battery).unwrap_err().number, 36);
+    /// assert_eq!(extension.rule(&dead_battery).unwrap_err().number, sculldrip::Refusal::CLOCK_BELOW_FLOOR);
     /// # Ok::<(), sculldrip::Refusal>(())
     /// ```
     pub fn rule(&self, request: &Request) -> Result<Permit, Refusal> {
@@ -182,8 +182,8 @@ impl Extension {
     ///
     /// ```
     /// # let extension = sculldrip::Extension::read(&sculldrip::SAMPLE)?;
-    /// assert_eq!(extension.enrol(&[1, 2, 4]).unwrap_err().number, 50);
-    /// assert_eq!(extension.enrol(&[1, 2, 3]).unwrap_err().number, 52); // no root of trust
+    /// assert_eq!(extension.enrol(&[1, 2, 4]).unwrap_err().number, sculldrip::Refusal::CHALLENGE_DIFFERS);
+    /// assert_eq!(extension.enrol(&[1, 2, 3]).unwrap_err().number, sculldrip::Refusal::NO_ROOT_OF_TRUST);
     /// # Ok::<(), sculldrip::Refusal>(())
     /// ```
     pub fn enrol(&self, expected: &[u8]) -> Result<(), Refusal> {

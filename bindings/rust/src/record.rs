@@ -69,7 +69,8 @@ impl Record {
     /// A record of a version with Software levels, KeyMint version 0, empty octets and empty lists.
     ///
     /// ```
-    /// assert_eq!(sculldrip::Record::new(5).write().unwrap_err().number, 20); // there is no version 5
+    /// # use sculldrip::{Record, Refusal};
+    /// assert_eq!(Record::new(5).write().unwrap_err().number, Refusal::ILL_SHAPED); // there is no version 5
     /// ```
     pub fn new(version: u32) -> Record {
         let mut image = Image::new();
@@ -218,7 +219,7 @@ impl Record {
     /// ```
     /// # use sculldrip::{List, NumberField, Record};
     /// let too_large = Record::new(3).with_number(List::Hardware, NumberField::KeySize, 1 << 32);
-    /// assert_eq!(too_large.write().unwrap_err().number, 20);
+    /// assert_eq!(too_large.write().unwrap_err().number, sculldrip::Refusal::ILL_SHAPED);
     /// ```
     pub fn with_number(mut self, list: List, field: NumberField, number: u64) -> Record {
         self.image.set_number(list, field, number);
@@ -230,7 +231,7 @@ impl Record {
     /// ```
     /// # use sculldrip::{FlagField, List, Record};
     /// let too_early = Record::new(3).with_flag(List::Hardware, FlagField::EarlyBootOnly);
-    /// assert_eq!(too_early.write().unwrap_err().number, 20); // from version 4
+    /// assert_eq!(too_early.write().unwrap_err().number, sculldrip::Refusal::ILL_SHAPED); // from version 4
     /// ```
     pub fn with_flag(mut self, list: List, field: FlagField) -> Record {
         self.image.set_flag(list, field);
@@ -285,7 +286,8 @@ impl Record {
     ///
     /// ```
     /// let challenge = [0; 8192];
-    /// assert_eq!(sculldrip::Record::new(3).with_challenge(&challenge).write().unwrap_err().number, 22);
+    /// let too_long = sculldrip::Record::new(3).with_challenge(&challenge);
+    /// assert_eq!(too_long.write().unwrap_err().number, sculldrip::Refusal::ENCODING_TOO_LONG);
     /// ```
     pub fn write(&self) -> Result<Vec<u8>, Refusal> {
         calls::write(&self.image, &self.buffer)
@@ -296,7 +298,7 @@ impl Record {
     /// ```
     /// # use sculldrip::{Clock, Purpose, Record, Request};
     /// let request = Request::new(Clock { now: 1609459200000, floor: 1600000000000 }).purpose(Purpose::SIGN);
-    /// assert_eq!(Record::new(3).rule(&request).unwrap_err().number, 31); // no list allows it
+    /// assert_eq!(Record::new(3).rule(&request).unwrap_err().number, sculldrip::Refusal::PURPOSE_NOT_ALLOWED);
     /// ```
     pub fn rule(&self, request: &Request) -> Result<Permit, Refusal> {
         calls::rule(&self.image, request)
@@ -306,7 +308,7 @@ impl Record {
     ///
     /// ```
     /// # use sculldrip::Record;
-    /// assert_eq!(Record::new(3).with_challenge(&[7]).enrol(&[7]).unwrap_err().number, 51);
+    /// assert_eq!(Record::new(3).with_challenge(&[7]).enrol(&[7]).unwrap_err().number, sculldrip::Refusal::SOFTWARE_LEVEL);
     /// ```
     pub fn enrol(&self, expected: &[u8]) -> Result<(), Refusal> {
         calls::enrol(&self.image, &self.buffer, expected)

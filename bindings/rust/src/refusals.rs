@@ -1,4 +1,5 @@
-//! The refusals' names, and what is to be said of them. Written by scripts/refusals.py from docs/REFUSALS.md: change it there.
+//! The refusals' names, and what is to be said of them.
+//! Written by scripts/refusals.py from docs/REFUSALS.md: change it there.
 
 use crate::refusal::Refusal;
 

@@ -155,7 +155,7 @@ pub struct Operation {
 ///     .purpose(Purpose::SIGN)
 ///     .digest(Digest::SHA_2_256)
 ///     .padding(Padding::NONE);
-/// assert_eq!(extension.rule(&request).unwrap_err().number, 37); // a millisecond too early
+/// assert_eq!(extension.rule(&request).unwrap_err().number, sculldrip::Refusal::NOT_YET_ACTIVE); // a millisecond too early
 /// # Ok::<(), sculldrip::Refusal>(())
 /// ```
 #[derive(Clone, Copy, Debug, PartialEq, Eq, Hash)]
@@ -179,7 +179,7 @@ impl Request {
     /// # use sculldrip::{Clock, Extension, Request};
     /// # let extension = Extension::read(&sculldrip::SAMPLE)?;
     /// let request = Request::new(Clock { now: 1609459200000, floor: 1600000000000 });
-    /// assert_eq!(extension.rule(&request).unwrap_err().number, 30); // for no purpose
+    /// assert_eq!(extension.rule(&request).unwrap_err().number, sculldrip::Refusal::PURPOSE_UNKNOWN);
     /// # Ok::<(), sculldrip::Refusal>(())
     /// ```
     pub fn new(clock: Clock) -> Request {
@@ -378,7 +378,7 @@ impl Permit {
 #[cfg(test)]
 mod tests {
     use super::*;
-    use crate::{FlagField, List, NumberField, Record, SetField};
+    use crate::{FlagField, List, NumberField, Record, Refusal, SetField};
 
     /// A key that may sign, and for which one thing more is asked.
     fn key() -> Record {
@@ -401,14 +401,23 @@ mod tests {
         let padded = sign.padding(Padding::NONE);
         let whole = padded.digest(Digest::SHA_2_256);
         assert!(key().rule(&whole).is_ok());
-        assert_eq!(refused(key(), unsaid), 30);
-        assert_eq!(refused(key(), sign), 33);
-        assert_eq!(refused(key(), padded), 34);
-        assert_eq!(refused(key().with_number(List::Software, NumberField::AuthType, u32::MAX.into()), whole), 40);
-        assert_eq!(refused(key().with_flag(List::Software, FlagField::UnlockedDeviceRequired), whole), 42);
-        assert_eq!(refused(key().with_flag(List::Software, FlagField::PresenceRequired), whole), 43);
-        assert_eq!(refused(key().with_flag(List::Software, FlagField::ConfirmationRequired), whole), 44);
-        assert_eq!(refused(key().with_flag(List::Software, FlagField::EarlyBootOnly), whole), 45);
-        assert_eq!(refused(key().with_number(List::Software, NumberField::UseLimit, u32::MAX.into()), whole), 46);
+        assert_eq!(refused(key(), unsaid), Refusal::PURPOSE_UNKNOWN);
+        assert_eq!(refused(key(), sign), Refusal::PADDING_NOT_ALLOWED);
+        assert_eq!(refused(key(), padded), Refusal::DIGEST_NOT_ALLOWED);
+        assert_eq!(
+            refused(key().with_number(List::Software, NumberField::AuthType, u32::MAX.into()), whole),
+            Refusal::TOKEN_UNFIT
+        );
+        assert_eq!(
+            refused(key().with_flag(List::Software, FlagField::UnlockedDeviceRequired), whole),
+            Refusal::DEVICE_LOCKED
+        );
+        assert_eq!(refused(key().with_flag(List::Software, FlagField::PresenceRequired), whole), Refusal::USER_NOT_PRESENT);
+        assert_eq!(refused(key().with_flag(List::Software, FlagField::ConfirmationRequired), whole), Refusal::NOT_CONFIRMED);
+        assert_eq!(refused(key().with_flag(List::Software, FlagField::EarlyBootOnly), whole), Refusal::EARLY_BOOT_OVER);
+        assert_eq!(
+            refused(key().with_number(List::Software, NumberField::UseLimit, u32::MAX.into()), whole),
+            Refusal::USED_UP
+        );
     }
 }
