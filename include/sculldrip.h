@@ -106,7 +106,7 @@ enum sculldrip_request {
     SCULLDRIP_REQUEST_CLOCK_FLOOR = 4, /* a moment that is known to have passed: a clock before it is wrong */
     SCULLDRIP_REQUEST_UPTIME = 5,
     SCULLDRIP_REQUEST_OPERATION_HANDLE = 6,
-    SCULLDRIP_REQUEST_HAS_TOKEN = 7, /* yes or no; without a token its three words are not looked at */
+    SCULLDRIP_REQUEST_HAS_TOKEN = 7, /* yes or no; without a token the next three words are not looked at */
     SCULLDRIP_REQUEST_TOKEN_TYPE = 8,
     SCULLDRIP_REQUEST_TOKEN_UPTIME = 9,
     SCULLDRIP_REQUEST_TOKEN_CHALLENGE = 10,
@@ -239,7 +239,8 @@ uint64_t sculldrip_list(const uint8_t *extension, size_t length, uint8_t *text, 
 /* ---- A request ---- */
 
 /* A request in which what is not said afterwards is refused: no purpose, digest or padding that there is, the clock below
- * its floor, no token, the device locked, the user neither present nor confirming, early boot over, and no uses left. */
+ * its floor, no token (and one would be of the future and for another operation), the device locked, the user neither present
+ * nor confirming, early boot over, and no uses left. */
 static inline void sculldrip_strict_request(uint64_t *request) {
     size_t i;
     for (i = 0; i < SCULLDRIP_REQUEST_WORDS; i++)
@@ -248,6 +249,8 @@ static inline void sculldrip_strict_request(uint64_t *request) {
     request[SCULLDRIP_REQUEST_DIGEST] = UINT64_MAX;
     request[SCULLDRIP_REQUEST_PADDING] = UINT64_MAX;
     request[SCULLDRIP_REQUEST_CLOCK_FLOOR] = UINT64_MAX;
+    request[SCULLDRIP_REQUEST_TOKEN_UPTIME] = UINT64_MAX;
+    request[SCULLDRIP_REQUEST_TOKEN_CHALLENGE] = UINT64_MAX;
     request[SCULLDRIP_REQUEST_DEVICE_LOCKED] = 1;
     request[SCULLDRIP_REQUEST_EARLY_BOOT_OVER] = 1;
     request[SCULLDRIP_REQUEST_USES_SO_FAR] = UINT64_MAX;

@@ -104,11 +104,10 @@ static void look_away(void) {
     expect("write, an empty set", sculldrip_write(image, SCULLDRIP_IMAGE_WORDS, NULL, 0, output, sizeof output), 0, 26);
 }
 
-/* A key whose one rule of this number is not met by a request that says only what the key's own lists ask. */
-static unsigned unsaid(unsigned row, uint64_t number) {
+/* A key that may sign; its request says no more than that, and is strict in all else. */
+static void make_key(uint64_t *image, uint64_t *request) {
     static const uint32_t sign[] = {SCULLDRIP_PURPOSE_SIGN}, digest[] = {SCULLDRIP_DIGEST_SHA_2_256},
                           padding[] = {SCULLDRIP_PADDING_NONE};
-    uint64_t image[SCULLDRIP_IMAGE_WORDS], request[SCULLDRIP_REQUEST_WORDS], permit[SCULLDRIP_PERMIT_WORDS];
     sculldrip_clear(image);
     sculldrip_put_attestation(image, 300, SCULLDRIP_LEVEL_TRUSTED_ENVIRONMENT);
     sculldrip_put_set(image, SCULLDRIP_HARDWARE, SCULLDRIP_ROW_PURPOSE, sign, 1);
@@ -116,20 +115,45 @@ static unsigned unsaid(unsigned row, uint64_t number) {
     sculldrip_put_set(image, SCULLDRIP_HARDWARE, SCULLDRIP_ROW_PADDING, padding, 1);
     sculldrip_put_number(image, SCULLDRIP_HARDWARE, SCULLDRIP_ROW_ALGORITHM, SCULLDRIP_ALGORITHM_EC);
     sculldrip_put_flag(image, SCULLDRIP_HARDWARE, SCULLDRIP_ROW_NO_AUTH_REQUIRED);
-    if (!sculldrip_put_flag(image, SCULLDRIP_SOFTWARE, row))
-        sculldrip_put_number(image, SCULLDRIP_SOFTWARE, row, number);
     sculldrip_strict_request(request);
     request[SCULLDRIP_REQUEST_PURPOSE] = SCULLDRIP_PURPOSE_SIGN;
     request[SCULLDRIP_REQUEST_DIGEST] = SCULLDRIP_DIGEST_SHA_2_256;
     request[SCULLDRIP_REQUEST_PADDING] = SCULLDRIP_PADDING_NONE;
+}
+
+static unsigned rule(const uint64_t *image, const uint64_t *request) {
+    uint64_t permit[SCULLDRIP_PERMIT_WORDS];
     return sculldrip_number(sculldrip_rule(image, SCULLDRIP_IMAGE_WORDS, request, SCULLDRIP_REQUEST_WORDS, permit,
                                            SCULLDRIP_PERMIT_WORDS));
+}
+
+/* The ruling where the key has one field more, in the list that software enforces. */
+static unsigned unsaid(unsigned row, uint64_t number) {
+    uint64_t image[SCULLDRIP_IMAGE_WORDS], request[SCULLDRIP_REQUEST_WORDS];
+    make_key(image, request);
+    if (!sculldrip_put_flag(image, SCULLDRIP_SOFTWARE, row))
+        sculldrip_put_number(image, SCULLDRIP_SOFTWARE, row, number);
+    return rule(image, request);
+}
+
+/* A token of which its type alone is said, for a key with a timeout and for one without. */
+static unsigned unsaid_token(int has_timeout) {
+    uint64_t image[SCULLDRIP_IMAGE_WORDS], request[SCULLDRIP_REQUEST_WORDS];
+    make_key(image, request);
+    sculldrip_put_number(image, SCULLDRIP_HARDWARE, SCULLDRIP_ROW_USER_AUTH_TYPE, 2);
+    if (has_timeout)
+        sculldrip_put_number(image, SCULLDRIP_HARDWARE, SCULLDRIP_ROW_AUTH_TIMEOUT, UINT32_MAX);
+    request[SCULLDRIP_REQUEST_HAS_TOKEN] = 1;
+    request[SCULLDRIP_REQUEST_TOKEN_TYPE] = 2;
+    return rule(image, request);
 }
 
 static void say_nothing(void) {
     expect_true("a strict request is met where a key asks for nothing more", unsaid(SCULLDRIP_ROW_ORIGIN, 0) == 0);
     expect_true("no clock", unsaid(SCULLDRIP_ROW_ACTIVE_DATE_TIME, 0) == SCULLDRIP_REFUSED_CLOCK_BELOW_FLOOR);
     expect_true("no token", unsaid(SCULLDRIP_ROW_USER_AUTH_TYPE, UINT32_MAX) == SCULLDRIP_REFUSED_TOKEN_UNFIT);
+    expect_true("an old token", unsaid_token(1) == SCULLDRIP_REFUSED_TOKEN_NOT_FRESH);
+    expect_true("another's token", unsaid_token(0) == SCULLDRIP_REFUSED_TOKEN_NOT_FRESH);
     expect_true("locked", unsaid(SCULLDRIP_ROW_UNLOCKED_DEVICE_REQUIRED, 0) == SCULLDRIP_REFUSED_DEVICE_LOCKED);
     expect_true("not there", unsaid(SCULLDRIP_ROW_TRUSTED_USER_PRESENCE_REQUIRED, 0) == SCULLDRIP_REFUSED_USER_NOT_PRESENT);
     expect_true("unconfirmed", unsaid(SCULLDRIP_ROW_TRUSTED_CONFIRMATION_REQUIRED, 0) == SCULLDRIP_REFUSED_NOT_CONFIRMED);

@@ -270,7 +270,6 @@ static int said_with(struct question *question, const char *option, const char *
     return 1;
 }
 
-/* A token is of another operation, and from the future, until it is said otherwise. */
 static struct question asked(int count, char **words) {
     struct question question = {0};
     int i;
@@ -278,8 +277,6 @@ static struct question asked(int count, char **words) {
     question.request[SCULLDRIP_REQUEST_PURPOSE] = SCULLDRIP_PURPOSE_SIGN;
     question.request[SCULLDRIP_REQUEST_CLOCK] = now();
     question.request[SCULLDRIP_REQUEST_CLOCK_FLOOR] = DEFAULT_FLOOR;
-    question.request[SCULLDRIP_REQUEST_TOKEN_UPTIME] = 1;
-    question.request[SCULLDRIP_REQUEST_TOKEN_CHALLENGE] = 1;
     for (i = 1; i < count; i++) {
         if (strcmp(words[i], "--help") == 0) {
             fputs(usage, stdout);
