@@ -1,5 +1,4 @@
-// What every reader of the comparison reads into, and what its library offers. The structs are laid out as those of
-// crates/records/src/lib.rt.
+// What every reader of the comparison reads into, and what its library offers.
 #ifndef PEERS_RECORD_H
 #define PEERS_RECORD_H
 

@@ -12,10 +12,6 @@
 
 #include "sculldrip.h"
 
-#define TEXT_BYTES (32768 + 56 * (SCULLDRIP_EXTENSION_BYTES + 1))
-#define SIGN 2
-#define SHA_256 4
-#define NO_PADDING 1
 #define CHALLENGE_BYTES 128
 
 /* No clock of a panel is before this: a lower one is dead or was set back. */
@@ -40,21 +36,31 @@ static int load(const char *path, struct extension *extension) {
 }
 
 static void print_refusal(const char *what, uint64_t answer) {
-    printf("%s refused %u at %" PRIu64 "\n", what, sculldrip_number(answer), sculldrip_rest(answer));
+    unsigned number = sculldrip_number(answer);
+    printf("%s refused %u at %" PRIu64 ": %s\n", what, number, sculldrip_rest(answer), sculldrip_sentence(number));
 }
 
 static void list(const struct extension *extension) {
-    static uint8_t text[TEXT_BYTES];
+    static uint8_t text[SCULLDRIP_LISTING_BYTES];
     uint64_t answer = sculldrip_list(extension->bytes, extension->length, text, sizeof text);
     if (sculldrip_number(answer) == 0)
         fwrite(text, 1, (size_t)sculldrip_rest(answer), stdout);
 }
 
-/* The device is unlocked, the user present, and no token is there: 503 alone lets such a use pass. */
+/* The panel runs, unlocked, with someone before it who has not confirmed and gave no token. Of the panel nothing else is
+ * said, and a rule on that is not met. */
 static int may_sign(const uint64_t *image, uint64_t clock) {
-    const uint64_t request[SCULLDRIP_REQUEST_WORDS] = {
-        [0] = SIGN, [1] = SHA_256, [2] = NO_PADDING, [3] = clock, [4] = CLOCK_FLOOR, [12] = 1,
-    };
+    uint64_t request[SCULLDRIP_REQUEST_WORDS];
+    sculldrip_strict_request(request);
+    request[SCULLDRIP_REQUEST_PURPOSE] = SCULLDRIP_PURPOSE_SIGN;
+    request[SCULLDRIP_REQUEST_DIGEST] = SCULLDRIP_DIGEST_SHA_2_256;
+    request[SCULLDRIP_REQUEST_PADDING] = SCULLDRIP_PADDING_NONE;
+    request[SCULLDRIP_REQUEST_CLOCK] = clock;
+    request[SCULLDRIP_REQUEST_CLOCK_FLOOR] = CLOCK_FLOOR;
+    request[SCULLDRIP_REQUEST_DEVICE_LOCKED] = 0;
+    request[SCULLDRIP_REQUEST_USER_PRESENT] = 1;
+    request[SCULLDRIP_REQUEST_USER_CONFIRMED] = 0;
+    request[SCULLDRIP_REQUEST_EARLY_BOOT_OVER] = 1;
     uint64_t permit[SCULLDRIP_PERMIT_WORDS];
     uint64_t answer = sculldrip_rule(image, SCULLDRIP_IMAGE_WORDS, request, SCULLDRIP_REQUEST_WORDS, permit,
                                      SCULLDRIP_PERMIT_WORDS);
@@ -63,7 +69,8 @@ static int may_sign(const uint64_t *image, uint64_t clock) {
         return 0;
     }
     printf("signing permitted, hardware %" PRIu64 " (bits: %" PRIu64 "), software %" PRIu64 " (bits: %" PRIu64 ")\n",
-           permit[0], permit[1], permit[2], permit[3]);
+           permit[SCULLDRIP_PERMIT_HARDWARE], permit[SCULLDRIP_PERMIT_HARDWARE_COUNT], permit[SCULLDRIP_PERMIT_SOFTWARE],
+           permit[SCULLDRIP_PERMIT_SOFTWARE_COUNT]);
     return 1;
 }
 

@@ -1,7 +1,7 @@
 //! The calls of the library, with lengths that fit what is lent. All unsafe code is here.
 
-use crate::field::List;
 use crate::image::{Image, Part};
+use crate::list::List;
 use crate::refusal::Refusal;
 use crate::request::{Permit, Request};
 use crate::sys;
@@ -60,7 +60,9 @@ pub(crate) fn enrol(image: &Image, buffer: &[u8], expected: &[u8]) -> Result<(),
 }
 
 pub(crate) fn list(bytes: &[u8]) -> String {
-    let mut text = vec![0; sys::LISTING_BYTES + sys::LISTING_BYTES_A_BYTE * bytes.len()];
+    // What is longer than any extension is refused, and its length buys it no memory.
+    let room = if bytes.len() > sys::EXTENSION_BYTES { sys::REFUSED_LISTING_BYTES } else { sys::LISTING_BYTES };
+    let mut text = vec![0; room];
     // SAFETY: each pointer is good for the length beside it.
     let answer = unsafe { sys::sculldrip_list(bytes.as_ptr(), bytes.len(), text.as_mut_ptr(), text.len()) };
     text.truncate(Refusal::check(answer).expect("there is room for any listing") as usize);

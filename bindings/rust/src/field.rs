@@ -2,23 +2,6 @@
 
 use crate::image::NUMBERS;
 
-/// Which of the two authorization lists.
-///
-/// ```
-/// # use sculldrip::{Extension, List};
-/// # let extension = Extension::read(&sculldrip::SAMPLE)?;
-/// assert_eq!(extension.list(List::Software).active(), Some(1609459200000));
-/// assert_eq!(extension.list(List::Hardware).active(), None);
-/// # Ok::<(), sculldrip::Refusal>(())
-/// ```
-#[derive(Clone, Copy, Debug, PartialEq, Eq, Hash)]
-pub enum List {
-    /// What the platform enforces.
-    Software,
-    /// What the secure hardware enforces.
-    Hardware,
-}
-
 macro_rules! fields {
     ($(#[$about:meta])* $name:ident { $($(#[$doc:meta])* $variant:ident = $number:literal,)* }) => {
         $(#[$about])*
@@ -47,7 +30,7 @@ macro_rules! fields {
 }
 
 /// The row of a number that is known to be in the table.
-fn row_of(number: u16) -> usize {
+pub(crate) fn row_of(number: u16) -> usize {
     NUMBERS.iter().position(|&known| known == number).expect("a field of the table")
 }
 
@@ -185,10 +168,8 @@ fields! {
     }
 }
 
-/// The row of rootOfTrust, the one field of its kind.
-pub(crate) fn root_of_trust_row() -> usize {
-    row_of(704)
-}
+/// The number of rootOfTrust, the one field of its kind.
+pub(crate) const ROOT_OF_TRUST: u16 = 704;
 
 #[cfg(test)]
 mod tests {
@@ -196,7 +177,7 @@ mod tests {
 
     #[test]
     fn the_kinds_share_out_the_table() {
-        let mut numbers: Vec<u16> = vec![704];
+        let mut numbers: Vec<u16> = vec![ROOT_OF_TRUST];
         numbers.extend(SetField::ALL.iter().map(|field| field.number()));
         numbers.extend(NumberField::ALL.iter().map(|field| field.number()));
         numbers.extend(FlagField::ALL.iter().map(|field| field.number()));

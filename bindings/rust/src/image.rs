@@ -1,6 +1,7 @@
 //! The words of an image, by their places in include/sculldrip.h.
 
-use crate::field::{root_of_trust_row, FlagField, List, NumberField, OctetField, SetField};
+use crate::field::{row_of, FlagField, NumberField, OctetField, SetField, ROOT_OF_TRUST as ROOT_OF_TRUST_NUMBER};
+use crate::list::List;
 use crate::sys::IMAGE_WORDS;
 
 /// SCULLDRIP_FIELD_NUMBERS: row k of a list is that of the k-th number.
@@ -31,11 +32,9 @@ pub(crate) struct Part {
 }
 
 impl Part {
-    /// The octets, where the part lies in the bytes.
-    pub fn of(self, bytes: &[u8]) -> Option<&[u8]> {
-        let start = usize::try_from(self.start).ok()?;
-        let end = start.checked_add(usize::try_from(self.length).ok()?)?;
-        bytes.get(start..end)
+    /// The octets of a part that lies in the bytes, as those of accepted extensions and of records do.
+    pub fn of(self, bytes: &[u8]) -> &[u8] {
+        &bytes[self.start as usize..][..self.length as usize]
     }
 }
 
@@ -75,10 +74,21 @@ impl Image {
         self.words[first_word(list) + row] = 1;
     }
 
+    pub fn remove(&mut self, list: List, number: u16) {
+        if let Some(row) = NUMBERS.iter().position(|&known| known == number) {
+            self.words[first_word(list) + row] = 0;
+        }
+    }
+
+    /// How many members a present set was given, which may be more than there are slots.
+    pub fn count(&self, list: List, field: SetField) -> Option<u64> {
+        self.has(list, field.row()).then(|| self.words[first_word(list) + slots_of(field) + SLOTS])
+    }
+
     pub fn members(&self, list: List, field: SetField) -> Option<&[u64]> {
         let slots = first_word(list) + slots_of(field);
-        let count = usize::try_from(self.words[slots + SLOTS]).unwrap_or(SLOTS).min(SLOTS);
-        self.has(list, field.row()).then(|| &self.words[slots..slots + count])
+        let count = self.words[slots + SLOTS].min(SLOTS as u64);
+        self.has(list, field.row()).then(|| &self.words[slots..slots + count as usize])
     }
 
     /// The count is that of all members, so that too many of them are no set with fewer.
@@ -108,6 +118,11 @@ impl Image {
         self.add(list, field.row());
     }
 
+    pub fn octets(&self, list: List, field: OctetField) -> Option<Part> {
+        let (start, length) = (first_word(list) + NUMBER + field.row(), first_word(list) + LENGTH + field.row());
+        self.has(list, field.row()).then(|| Part { start: self.words[start], length: self.words[length] })
+    }
+
     pub fn set_octets(&mut self, list: List, field: OctetField, part: Part) {
         let start = first_word(list) + NUMBER + field.row();
         let length = first_word(list) + LENGTH + field.row();
@@ -118,7 +133,7 @@ impl Image {
 
     pub fn root_of_trust(&self, list: List) -> Option<RootWords> {
         let at = first_word(list) + ROOT_OF_TRUST;
-        self.has(list, root_of_trust_row()).then(|| RootWords {
+        self.has(list, row_of(ROOT_OF_TRUST_NUMBER)).then(|| RootWords {
             key: self.part(at),
             locked: self.words[at + 2] == 1,
             state: self.words[at + 3],
@@ -133,7 +148,7 @@ impl Image {
         self.words[at + 3] = root.state;
         self.words[at + 4] = u64::from(root.hash.is_some());
         self.set_part(at + 5, root.hash.unwrap_or(Part { start: 0, length: 0 }));
-        self.add(list, root_of_trust_row());
+        self.add(list, row_of(ROOT_OF_TRUST_NUMBER));
     }
 }
 

@@ -5,18 +5,14 @@
 //! be listed, written again, and ruled on.
 //!
 //! ```
-//! use sculldrip::{Digest, Extension, Padding, Purpose, Request};
+//! use sculldrip::{Clock, Digest, Extension, Padding, Purpose, Request};
 //!
 //! let extension = Extension::read(&sculldrip::SAMPLE)?;
 //! print!("{extension}");
-//! let request = Request {
-//!     purpose: Purpose::SIGN,
-//!     digest: Digest::SHA_2_256,
-//!     padding: Padding::NONE,
-//!     clock: 1609459200000,
-//!     clock_floor: 1600000000000,
-//!     ..Default::default()
-//! };
+//! let request = Request::new(Clock { now: 1609459200000, floor: 1600000000000 })
+//!     .purpose(Purpose::SIGN)
+//!     .digest(Digest::SHA_2_256)
+//!     .padding(Padding::NONE);
 //! let permit = extension.rule(&request)?;
 //! assert_eq!(permit.hardware.bits, 32783);
 //! # Ok::<(), sculldrip::Refusal>(())
@@ -27,16 +23,20 @@ mod calls;
 mod extension;
 mod field;
 mod image;
+mod list;
 mod record;
 mod refusal;
+#[rustfmt::skip] // it is written by a script
+mod refusals;
 mod request;
 pub mod sys;
 
-pub use extension::{BootState, Extension, Fields, Level, RootOfTrust};
-pub use field::{FlagField, List, NumberField, OctetField, SetField};
-pub use record::Record;
+pub use extension::Extension;
+pub use field::{FlagField, NumberField, OctetField, SetField};
+pub use list::{BootState, Fields, List, RootOfTrust, Value};
+pub use record::{Level, Record};
 pub use refusal::Refusal;
-pub use request::{Digest, Mark, Padding, Permit, Purpose, Request, Rule, Token};
+pub use request::{Clock, Digest, Mark, Operation, Padding, Permit, Purpose, Request, Rule, Token};
 
 /// Lists any bytes: what they say where they are an extension, else one line with their refusal.
 ///

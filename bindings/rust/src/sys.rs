@@ -1,7 +1,8 @@
 //! The C interface as include/sculldrip.h declares it, for callers who keep images themselves.
 //!
 //! Each function takes anything and answers one number: its low byte is 0 or a refusal's number, the rest a count, a length
-//! or a place. The only duty of a caller is that each pointer is good for the length beside it.
+//! or a place. The duties of a caller are that each pointer is good for the length beside it (of length 0 it may be null), and
+//! that what is lent to be written overlaps nothing else.
 //!
 //! ```
 //! let (extension, mut image) = ([0x30, 0x80], [0u64; sculldrip::sys::IMAGE_WORDS]);
@@ -9,6 +10,8 @@
 //! assert_eq!((answer & 0xff, answer >> 8), (4, 0));
 //! ```
 
+/// The interface that this crate is for; [`sculldrip_version`] says the library's.
+pub const VERSION: u64 = 2;
 /// How many words an image has.
 pub const IMAGE_WORDS: usize = 410;
 /// How many words a request has.
@@ -19,14 +22,17 @@ pub const PERMIT_WORDS: usize = 4;
 pub const PART_WORDS: usize = 2;
 /// The most bytes that an extension has.
 pub const EXTENSION_BYTES: usize = 8192;
-/// The answer where a lent image, request, permit or part has too few words.
-pub const SHORT_IMAGE: u8 = 200;
-/// What a listing's output must have, whatever the extension's length is.
-pub const LISTING_BYTES: usize = 32_768;
-/// What a listing's output must have besides, for each byte of the extension.
-pub const LISTING_BYTES_A_BYTE: usize = 56;
+/// The room that is enough for every listing.
+pub const LISTING_BYTES: usize = 491_520;
+/// The room that is enough for the listing of a refusal.
+pub const REFUSED_LISTING_BYTES: usize = 64;
+/// The stack that is enough for every call.
+pub const STACK_BYTES: usize = 32_768;
 
 extern "C" {
+    /// The interface that the library was built for.
+    pub fn sculldrip_version() -> u64;
+
     /// Reads an extension into an image. The rest is its count of elements.
     pub fn sculldrip_read(extension: *const u8, length: usize, image: *mut u64, words: usize) -> u64;
 
@@ -71,6 +77,7 @@ extern "C" {
         expected_length: usize,
     ) -> u64;
 
-    /// Lists an extension, or its refusal, as text. The rest is the text's length.
+    /// Lists an extension, or its refusal, as text. The rest is the text's length. An accepted extension asks for 32,768 bytes
+    /// of room and 56 for each of its bytes, a refusal for [`REFUSED_LISTING_BYTES`].
     pub fn sculldrip_list(extension: *const u8, length: usize, text: *mut u8, room: usize) -> u64;
 }

@@ -14,14 +14,14 @@ use std::io::Write;
 use generator::records::Stored;
 use generator::{extensions, images, records, requests, Random};
 use reference::rule::{rule, Permit, Request};
-use reference::{enrol::enrol, image, listing::listing, model, read::read, table, write::write};
+use reference::{enrol::enrol, image, listing::listing, listing::room, model, read::read, table, write::write};
 use reference::{Part, Record, Refusal, Value};
 use sculldrip::{sys, Extension, FlagField, List, NumberField, OctetField, SetField};
 
 const DEFAULT_INPUTS: u64 = 200_000;
 const DEFAULT_SEED: u64 = 1;
 const MOST_DIFFERENCES: usize = 20;
-const SHORT: u64 = sys::SHORT_IMAGE as u64;
+const SHORT: u64 = sculldrip::Refusal::SHORT_IMAGE as u64;
 const FILL: u64 = 0xa5a5_a5a5_a5a5_a5a5;
 
 fn setting(name: &str, default: u64) -> u64 {
@@ -195,7 +195,7 @@ impl Comparison {
     }
 
     fn check_list(&mut self, bytes: &[u8], random: &mut Random) {
-        let needed = sys::LISTING_BYTES + sys::LISTING_BYTES_A_BYTE * bytes.len();
+        let needed = room(bytes);
         let room = match random.below(40) {
             0 => needed - 1,
             1 => random.below(needed),
@@ -352,6 +352,7 @@ impl Comparison {
         self.check("crate: written again", extension.write().as_deref() == Ok(bytes), &input);
         let written = extension.to_record().write();
         self.check("crate: written as a record", written.as_deref() == Ok(bytes), &input);
+        self.check("crate: equal to a copy", rebuilt(&extension) == extension.to_record(), &input);
         for (list, is_hardware) in [(List::Software, false), (List::Hardware, true)] {
             let got = fields_of(&extension, list);
             let want: Vec<(u64, String)> =
@@ -502,49 +503,59 @@ fn expected_challenge(record: &Record, buffer: &[u8], random: &mut Random) -> Ve
 
 /// The request as the crate takes it. A token that is not there has nothing.
 fn typed(request: &Request) -> sculldrip::Request {
+    let typed = sculldrip::Request::new(sculldrip::Clock { now: request.clock, floor: request.floor })
+        .purpose(sculldrip::Purpose(request.purpose))
+        .digest(sculldrip::Digest(request.digest))
+        .padding(sculldrip::Padding(request.padding))
+        .device_locked(request.locked)
+        .user_present(request.present)
+        .user_confirmed(request.confirmed)
+        .early_boot_over(request.early_boot_over)
+        .uses_so_far(request.uses);
     let token = request.token;
-    sculldrip::Request {
-        purpose: sculldrip::Purpose(request.purpose),
-        digest: sculldrip::Digest(request.digest),
-        padding: sculldrip::Padding(request.padding),
-        clock: request.clock,
-        clock_floor: request.floor,
-        uptime: request.uptime,
-        operation_handle: request.handle,
-        token: token.there.then_some(sculldrip::Token {
-            type_bits: token.kind,
-            uptime: token.time,
-            challenge: token.challenge,
-        }),
-        device_locked: request.locked,
-        user_present: request.present,
-        user_confirmed: request.confirmed,
-        early_boot_over: request.early_boot_over,
-        uses_so_far: request.uses,
+    if !token.there {
+        return typed;
     }
+    let operation = sculldrip::Operation { uptime: request.uptime, handle: request.handle };
+    typed.token(sculldrip::Token { type_bits: token.kind, uptime: token.time, challenge: token.challenge }, operation)
 }
 
 /// The fields that the crate hands out, as numbers and texts.
 fn fields_of(extension: &Extension, list: List) -> Vec<(u64, String)> {
-    let fields = extension.list(list);
-    let mut found: Vec<(u64, String)> = Vec::new();
-    let mut add = |number: u16, text: Option<String>| found.extend(text.map(|text| (u64::from(number), text)));
-    for &field in SetField::ALL {
-        add(field.number(), fields.set(field).map(|members| format!("{members:?}")));
+    let text = |value: sculldrip::Value<'_>| match value {
+        sculldrip::Value::Set(members) => format!("{members:?}"),
+        sculldrip::Value::Number(number) => number.to_string(),
+        sculldrip::Value::Flag => "yes".to_string(),
+        sculldrip::Value::Octets(octets) => hex(octets),
+        sculldrip::Value::RootOfTrust(root) => root_text(root.key, root.locked, root.state as u64, root.hash),
+    };
+    extension.list(list).all().into_iter().map(|(number, value)| (u64::from(number), text(value))).collect()
+}
+
+/// The record of an extension, set up anew field by field.
+fn rebuilt(extension: &Extension) -> sculldrip::Record {
+    let mut record = sculldrip::Record::new(extension.version())
+        .with_level(extension.level())
+        .with_keymint(extension.keymint_version(), extension.keymint_level())
+        .with_unique_id(extension.unique_id())
+        .with_challenge(extension.challenge());
+    for list in [List::Software, List::Hardware] {
+        let fields = extension.list(list);
+        for &field in SetField::ALL {
+            record = fields.set(field).into_iter().fold(record, |record, members| record.with_set(list, field, &members));
+        }
+        for &field in NumberField::ALL {
+            record = fields.number(field).into_iter().fold(record, |record, number| record.with_number(list, field, number));
+        }
+        for &field in FlagField::ALL.iter().filter(|&&field| fields.flag(field)) {
+            record = record.with_flag(list, field);
+        }
+        for &field in OctetField::ALL {
+            record = fields.octets(field).into_iter().fold(record, |record, octets| record.with_octets(list, field, octets));
+        }
+        record = fields.root_of_trust().into_iter().fold(record, |record, root| record.with_root_of_trust(list, root));
     }
-    for &field in NumberField::ALL {
-        add(field.number(), fields.number(field).map(|number| number.to_string()));
-    }
-    for &field in FlagField::ALL {
-        add(field.number(), fields.flag(field).then(|| "yes".to_string()));
-    }
-    for &field in OctetField::ALL {
-        add(field.number(), fields.octets(field).map(hex));
-    }
-    let root = fields.root_of_trust();
-    add(704, root.map(|root| root_text(root.key, root.locked, root.state as u64, root.hash)));
-    found.sort();
-    found
+    record
 }
 
 fn text_of(value: &Value, bytes: &[u8]) -> String {

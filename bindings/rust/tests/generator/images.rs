@@ -11,23 +11,8 @@ pub fn image(record: &Record, random: &mut Random) -> Vec<u64> {
     let spare = random.pick(&[0, 1, 2, u64::MAX]);
     let is_random = random.flip();
     let mut image: Vec<u64> = (0..WORDS).map(|_| if is_random { random.word() } else { spare }).collect();
-    for list in LISTS {
-        tame(&mut image[list..]);
-    }
     lay_out(record, &mut image);
     image
-}
-
-/// Slots and the root of trust's state and flags keep to their widths, also where they are not looked at.
-fn tame(list: &mut [u64]) {
-    for set in [126, 143, 160, 177] {
-        for slot in &mut list[set..set + 16] {
-            *slot &= 0xffff_ffff;
-        }
-    }
-    list[194 + 2] &= 1;
-    list[194 + 3] &= 0xffff_ffff;
-    list[194 + 4] &= 1;
 }
 
 /// The record's image with words that a caller should not have put there.

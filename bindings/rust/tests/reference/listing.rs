@@ -3,6 +3,15 @@
 use super::model::{Part, Record, Refusal, Root, Value};
 use super::read::read;
 
+/// The room that a listing asks for, though its text may take less: 64 octets for a refusal; for an accepted extension 32,768
+/// and 56 for each of its bytes.
+pub fn room(bytes: &[u8]) -> usize {
+    match read(bytes) {
+        Ok(_) => 32_768 + 56 * bytes.len(),
+        Err(_) => 64,
+    }
+}
+
 pub fn listing(bytes: &[u8]) -> String {
     match read(bytes) {
         Ok((record, elements)) => accepted(&record, elements, bytes),
