@@ -32,18 +32,6 @@ use Rattle.reader.proofs.Roots.{octets-inside, bind-same}
 
 -- ---- tests of a version
 
-pub not-known : (v : ℕ) → (v ≡ 1 → ⊥) → (v ≡ 2 → ⊥) → (v ≡ 3 → ⊥) → (v ≡ 4 → ⊥) → (v ≡ 100 → ⊥) → (v ≡ 200 → ⊥) → (v ≡ 300 → ⊥) → false ≡ knownVersion v
-unfolding knownVersion
-not-known v a b c d e f g = rw (ne-eqb v 1 a, ne-eqb v 2 b, ne-eqb v 3 c, ne-eqb v 4 d, ne-eqb v 100 e, ne-eqb v 200 f, ne-eqb v 300 g) refl
-
-pub top-two : (v : ℕ) → 3 ≤ v → 2 ≡ levelTop v
-unfolding levelTop pick
-top-two v h = rw (le-leb 3 v h) refl
-
-pub top-one : (v : ℕ) → v < 3 → 1 ≡ levelTop v
-unfolding levelTop pick
-top-one v h = rw (lt-leb 3 v h) refl
-
 pub level-small : (v : ℕ) → levelTop v ≤ 2
 unfolding levelTop pick
 level-small v = small (leb 3 v)

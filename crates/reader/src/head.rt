@@ -6,11 +6,12 @@ use crate::leaf::read_octets;
 use answer::UNKNOWN_VERSION;
 use records::Part;
 use records::Security;
+use schema::version::known_version;
+use schema::version::level_top;
 ghost use mathlib.Core.Path.{_≡_};
 ghost use Prim.Native.Nat.{_≤_};
 ghost use lib.ListN.{length};
 ghost use lib.Seq.{slice};
-ghost use Rattle.schema.specs.Table.{knownVersion, levelTop};
 ghost use Rattle.schema.specs.Decode.{readVersion};
 ghost use Rattle.reader.specs.Leaf.{ofNumber};
 ghost use Rattle.reader.specs.Head.{levelAfter, readAttestation, readKeymint, readNames, headAfter, readHead, ofSecured, ofNames, ofHead, VersionInside, LevelInside, SecuredInside, AttestationInside, NamesInside, HeadInside, Known};
@@ -41,32 +42,6 @@ pub(crate) enum Head {
         next: usize,
     },
     Refused(u8, usize),
-}
-
-// Whether it is a version of the schema.
-fn known_version(version: u64) -> bool
-    ensures { λ r. ⌜ r ≡ knownVersion version ⌝ }
-{
-    match version {
-        1 => true,
-        2 => true,
-        3 => true,
-        4 => true,
-        100 => true,
-        200 => true,
-        300 => true,
-        _ => false,
-    }
-}
-
-// The highest security level of a version.
-fn level_top(version: u32) -> u64
-    ensures { λ r. ⌜ r ≡ levelTop version ⌝ }
-{
-    if 3 <= version {
-        return 2;
-    }
-    1
 }
 
 // The attestation's version.

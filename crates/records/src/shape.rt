@@ -5,11 +5,13 @@ use crate::NumberSet;
 use crate::Record;
 use crate::RootOfTrust;
 use schema::Kind;
+use schema::version::known_version;
+use schema::version::level_top;
 ghost use mathlib.Core.Path.{_≡_};
 ghost use mathlib.Core.Bool.{true, _&&_};
 ghost use lib.Dec.{leb};
 ghost use Rattle.answer.specs.Answer.{pick};
-ghost use Rattle.schema.specs.Table.{knownVersion, levelTop, top32};
+ghost use Rattle.schema.specs.Table.{top32};
 ghost use Rattle.schema.specs.Rows.{ofKind};
 ghost use Rattle.records.specs.Content.{setAt};
 ghost use Rattle.records.specs.Rows.{allBelow};
@@ -150,38 +152,18 @@ fn list_shaped(version: u32, l: FieldList) -> bool
     rows_shaped(version, l)
 }
 
-// One of the seven.
-pub fn known_version(version: u32) -> bool
-    ensures { λ b. ⌜ b ≡ knownVersion version ⌝ }
-{
-    match version {
-        1 | 2 | 3 | 4 | 100 | 200 | 300 => true,
-        _ => false,
-    }
-}
-
-// The highest security level of a version.
-pub fn level_top(version: u32) -> u32
-    ensures { λ n. ⌜ n ≡ levelTop version ⌝ }
-{
-    if 3 <= version {
-        return 2;
-    }
-    1
-}
-
 // The version one of the seven, KeyMint's version and both levels within their tops.
 fn head_shaped(version: u32, level: u32, keymint: u32, keylevel: u32) -> bool
     ensures { λ b. ⌜ b ≡ headShaped version level keymint keylevel ⌝ }
 {
-    if !known_version(version) {
+    if !known_version(version as u64) {
         return false;
     }
     let top = level_top(version);
-    if top < level {
+    if top < level as u64 {
         return false;
     }
-    keylevel <= top
+    (keylevel as u64) <= top
 }
 
 // Whether a record is well-shaped, whatever a caller set it to.

@@ -1,7 +1,7 @@
--- `records::shape::known_version` meets its contract: one of the seven, or none of them. Assumes nothing.
-use Rattle.records.proofs.Shapes.{version-first, version-named, version-none, version-other}
-use Rattle.records.proofs.shape.known_version.Statement.{statement}
-use Rattle.records.proofs.shape.known_version.Tie as tie
+-- `schema::version::known_version` meets its contract: one of the seven, or none of them. Assumes nothing.
+use Rattle.schema.proofs.Versions.{version-first, version-named, version-none, version-other}
+use Rattle.schema.proofs.version.known_version.Statement.{statement}
+use Rattle.schema.proofs.version.known_version.Tie as tie
 
 returns : tie.Need-returns
 returns c = search version-none
