@@ -4,3 +4,4 @@ pub mod Header
 pub mod Integer
 pub mod Element
 pub mod Tree
+pub mod Limits

@@ -5,6 +5,7 @@ use Prim.Native.Nat.{ℕ, _+_, _<_, _≤_}
 use lib.Seq.{slice}
 use Rattle.answer.specs.Answer.{Answer, got, refused}
 use Rattle.codec.specs.Octets.{Taken, taken}
+use Rattle.codec.specs.Limits.{extensionBytes, extensionDepth, extensionElements}
 use Rattle.codec.specs.Tree.{Node, Nodes, nodes, allNodes}
 use Rattle.der.specs.declared.walk.Limits.{Limits}
 use Rattle.der.specs.declared.walk.Step.{Step}
@@ -12,7 +13,7 @@ use Rattle.der.specs.declared.walk.Walked.{Walked}
 
 -- document 01: "down to depth 8", "at most 8,192 bytes and 512 elements"
 abbrev pub extensionLimits : Limits
-extensionLimits = record { bytes = 8192; depth = 8; elements = 512 }
+extensionLimits = record { bytes = extensionBytes; depth = extensionDepth; elements = extensionElements }
 
 -- accepted with the element count, or refused with number and place
 abbrev pub ofWalked : Walked → Answer ℕ

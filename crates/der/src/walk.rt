@@ -15,6 +15,13 @@ ghost use lib.Seq.{slice};
 ghost use Rattle.codec.specs.Tree.{run, walkElement, firstPass};
 ghost use Rattle.der.specs.Walk.{ofStep, ofRun, ofWalked, counted, summed, nodeCount, StepInside, StepAt, extensionLimits};
 
+// "An extension has at most 8,192 bytes and 512 elements", "down to depth 8".
+pub const EXTENSION_BYTES: usize = 8192;
+
+const EXTENSION_DEPTH: usize = 8;
+
+const EXTENSION_ELEMENTS: usize = 512;
+
 // How much input is taken: bytes, levels of nesting and elements.
 pub struct Limits {
     pub bytes: usize,
@@ -23,14 +30,13 @@ pub struct Limits {
 }
 
 impl Limits {
-    // An extension's: "down to depth 8", "at most 8,192 bytes and 512 elements".
     pub fn extension() -> Self
         ensures { λ r. ⌜ r ≡ extensionLimits ⌝ }
     {
         Limits {
-            bytes: 8192,
-            depth: 8,
-            elements: 512,
+            bytes: EXTENSION_BYTES,
+            depth: EXTENSION_DEPTH,
+            elements: EXTENSION_ELEMENTS,
         }
     }
 }

@@ -7,6 +7,7 @@ use Prim.Native.Nat.{ℕ, _≤_, _<_}
 use lib.ListN.{length, take, drop}
 use lib.Dec.{T}
 use Rattle.answer.specs.Answer.{got}
+use Rattle.codec.specs.Limits.{extensionBytes}
 use Rattle.codec.specs.Octets.{Octets}
 use Rattle.codec.specs.Tree.{Node, nodes, firstPass}
 use Rattle.schema.specs.Content.{Content, encode, wellShaped}
@@ -29,7 +30,7 @@ use Rattle.one_record.specs.Contracts.{ReadsAs}
 abbrev pub AcceptedExactly : Type 0
 AcceptedExactly =
     (bs : List ℕ) → Octets bs
-    → ((w : Content × ℕ) × (read bs ≡ got w)) ↔ ((c : Content) × T (wellShaped c) × ContentOctets c × (encode c ≡ bs) × (length bs ≤ 8192))
+    → ((w : Content × ℕ) × (read bs ≡ got w)) ↔ ((c : Content) × T (wellShaped c) × ContentOctets c × (encode c ≡ bs) × (length bs ≤ extensionBytes))
 
 -- "accepted extensions read as equal records exactly when their bytes are the same"
 abbrev pub EqualSameBytes : Type 0
@@ -43,7 +44,7 @@ pub record Encodable (r : Record) (s : List ℕ) : Type 0 where
   pub shaped : T (wellShapedRecord r)
   pub inside : T (partsInside r (length s))
   pub octets : Octets s
-  pub short : length (encodingOf r s) ≤ 8192
+  pub short : length (encodingOf r s) ≤ extensionBytes
 
 -- ".. has exactly one encoding, it is accepted": every read of it accepts, with its count of elements
 abbrev pub EncodingAccepted : Type 0
@@ -70,7 +71,7 @@ OnlyEncoding =
 abbrev pub EncodingSmall : Type 0
 EncodingSmall =
     (r : Record) (s : List ℕ) → Encodable r s
-    → (t : Node) × (nodes t ≡ countOf (contentOf r s)) × (firstPass 8192 5 313 (encodingOf r s) ≡ got t)
+    → (t : Node) × (nodes t ≡ countOf (contentOf r s)) × (firstPass extensionBytes 5 313 (encodingOf r s) ≡ got t)
 
 -- "the writer writes just that at the front of the output and changes nothing else"
 abbrev pub WritesJustThat : Type 0
@@ -89,8 +90,8 @@ RefusedUntouched =
 pub record RefusesInOrder (r : Record) (s out : List ℕ) (w : Written) : Type 0 where
   pub unshaped : (T (wellShapedRecord r) → ⊥) → w ≡ Written.Refused 20 0
   pub outside : (T (partsInside r (length s)) → ⊥) → w ≡ Written.Refused 20 0
-  pub long : T (wellShapedRecord r) → T (partsInside r (length s)) → 8192 < length (encodingOf r s) → w ≡ Written.Refused 22 0
-  pub narrow : T (wellShapedRecord r) → T (partsInside r (length s)) → length (encodingOf r s) ≤ 8192 → length out < length (encodingOf r s) → w ≡ Written.Refused 21 0
+  pub long : T (wellShapedRecord r) → T (partsInside r (length s)) → extensionBytes < length (encodingOf r s) → w ≡ Written.Refused 22 0
+  pub narrow : T (wellShapedRecord r) → T (partsInside r (length s)) → length (encodingOf r s) ≤ extensionBytes → length out < length (encodingOf r s) → w ≡ Written.Refused 21 0
 
 abbrev pub WriteRefuses : Type 0
 WriteRefuses = (r : Record) (s out after : List ℕ) (w : Written) → Writes r s out w after → RefusesInOrder r s out w

@@ -5,7 +5,7 @@ use Prim.Native.Nat.{ℕ, _<_, _≤_}
 use lib.Seq.{slice}
 use Rattle.answer.specs.Answer.{Answer, got, refused, bind}
 use Rattle.codec.specs.Octets.{Taken, taken}
-use Rattle.schema.specs.Table.{rowAt}
+use Rattle.schema.specs.Table.{rowAt, rowCount}
 use Rattle.schema.specs.Content.{FieldWith, field, Place}
 use Rattle.schema.specs.Decode.{readValue, readField, asPlace}
 use Rattle.reader.specs.Content.{contentValue}
@@ -16,7 +16,7 @@ use Rattle.reader.specs.declared.fields.FieldRead.{FieldRead}
 
 -- a field that the version holds, in order: reading it is reading its content by the kind of its row
 pub record FieldAt (s : List ℕ) (at end v low row n b x : ℕ) : Type 0 where
-  pub inTable : row < 42
+  pub inTable : row < rowCount
   pub isRow : rowAt row .number ≡ n
   pub above : low ≤ n
   pub body : at < b
@@ -35,7 +35,7 @@ ofField s end (Step.Refused k p) f = refused k p
 
 -- it is one of the table's, goes on and stays inside; n is how many bytes there are
 pub record FieldKept (n at end low : ℕ) (f : FieldRead) : Type 0 where
-  pub inTable : f .row < 42
+  pub inTable : f .row < rowCount
   pub isRow : rowAt (f .row) .number ≡ f .number
   pub small : f .number ≤ 723
   pub above : low ≤ f .number

@@ -13,6 +13,7 @@ use answer::FIELD_ORDER;
 use answer::NOT_IN_VERSION;
 use answer::WRONG_ELEMENT;
 use records::FieldList;
+use schema::ROWS;
 use schema::held;
 use schema::row_at;
 use schema::row_of;
@@ -55,7 +56,7 @@ fn open_field(s: &[u8], at: usize, end: usize, version: u32, low: usize) -> Fiel
                 return FieldHead::Refused(WRONG_ELEMENT, at);
             }
             let row = row_of(number);
-            if 42 <= row {
+            if ROWS <= row {
                 return FieldHead::Refused(NOT_IN_VERSION, at);
             }
             if held(version, row_at(row)) {
@@ -123,9 +124,9 @@ pub(crate) fn empty_list() -> FieldList
 {
     let none = empty_set();
     FieldList {
-        present: [false; 42],
-        values: [0; 42],
-        sizes: [0; 42],
+        present: [false; ROWS],
+        values: [0; ROWS],
+        sizes: [0; ROWS],
         purpose: none,
         digest: none,
         padding: none,

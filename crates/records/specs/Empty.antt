@@ -1,6 +1,7 @@
 -- A record that says nothing, as it stands beside a refusal and before anything is read.
 use mathlib.Core.Bool.{false}
 use lib.ListN.{replicate}
+use Rattle.schema.specs.Table.{rowCount}
 use Rattle.records.specs.declared.NumberSet.{NumberSet}
 use Rattle.records.specs.declared.RootOfTrust.{RootOfTrust}
 use Rattle.records.specs.declared.FieldList.{FieldList}
@@ -14,9 +15,9 @@ emptyRoot = record { key = record { start = 0; len = 0 }; locked = false; state 
 
 abbrev pub emptyList : FieldList
 emptyList = record {
-  present = replicate 42 false;
-  values = replicate 42 0;
-  sizes = replicate 42 0;
+  present = replicate rowCount false;
+  values = replicate rowCount 0;
+  sizes = replicate rowCount 0;
   purpose = emptySet;
   digest = emptySet;
   padding = emptySet;

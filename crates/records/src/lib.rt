@@ -4,6 +4,8 @@ pub mod octets;
 pub mod parts;
 pub mod shape;
 
+use schema::ROWS;
+
 // Octets of the buffer, from start on. Document 01's "octet part".
 #[repr(C)]
 pub struct Part {
@@ -32,9 +34,9 @@ pub struct RootOfTrust {
 // A number stands in values; an octet field's start in values and its length in sizes; each set and 704 in its own.
 #[repr(C)]
 pub struct FieldList {
-    pub present: [bool; 42],
-    pub values: [u64; 42],
-    pub sizes: [u64; 42],
+    pub present: [bool; ROWS],
+    pub values: [u64; ROWS],
+    pub sizes: [u64; ROWS],
     pub purpose: NumberSet,
     pub digest: NumberSet,
     pub padding: NumberSet,

@@ -5,6 +5,7 @@ use crate::Record;
 use crate::parts::inside;
 use answer::ILL_SHAPED;
 use schema::Kind;
+use schema::ROWS;
 ghost use mathlib.Core.Path.{_≡_};
 ghost use mathlib.Core.Bool.{true};
 ghost use Rattle.schema.specs.Table.{octets, rows, indexOf};
@@ -43,7 +44,7 @@ fn ask_list(l: FieldList, number: usize, len: usize) -> Asked
     ensures { λ a. ⌜ ofAsked a ≡ askedAt l (indexOf rows number) len ⌝ }
 {
     let k = schema::row_of(number);
-    if 42 <= k {
+    if ROWS <= k {
         return Asked::Absent;
     }
     if !l.present[k] {

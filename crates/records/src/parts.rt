@@ -4,6 +4,7 @@ use crate::Part;
 use crate::Record;
 use crate::RootOfTrust;
 use schema::Kind;
+use schema::ROWS;
 ghost use mathlib.Core.Path.{_≡_};
 ghost use Rattle.schema.specs.Rows.{ofKind};
 ghost use Rattle.records.specs.Parts.{inside, partInside, rootInside, contentInside, listInside, partsInside};
@@ -60,7 +61,7 @@ fn list_inside(l: FieldList, len: usize) -> bool
     ensures { λ b. ⌜ b ≡ listInside l len ⌝ }
 {
     let mut k: usize = 0;
-    while k < 42 {
+    while k < ROWS {
         if l.present[k] {
             let row = schema::row_at(k);
             let kind = row.kind;

@@ -5,13 +5,14 @@ use crate::NumberSet;
 use crate::Record;
 use crate::RootOfTrust;
 use schema::Kind;
+use schema::ROWS;
 use schema::version::known_version;
 use schema::version::level_top;
 ghost use mathlib.Core.Path.{_≡_};
 ghost use mathlib.Core.Bool.{true, _&&_};
 ghost use lib.Dec.{leb};
 ghost use Rattle.answer.specs.Answer.{pick};
-ghost use Rattle.schema.specs.Table.{top32};
+ghost use Rattle.schema.specs.Table.{rowCount, top32};
 ghost use Rattle.schema.specs.Rows.{ofKind};
 ghost use Rattle.records.specs.Content.{setAt};
 ghost use Rattle.records.specs.Rows.{allBelow};
@@ -89,10 +90,10 @@ fn plain_shaped(kind: Kind, value: u64) -> bool
 
 // Every present field is one its version holds, its number within its top.
 fn rows_shaped(version: u32, l: FieldList) -> bool
-    ensures { λ b. ⌜ b ≡ allBelow (rowPlain version l) 42 ⌝ }
+    ensures { λ b. ⌜ b ≡ allBelow (rowPlain version l) rowCount ⌝ }
 {
     let mut k: usize = 0;
-    while k < 42 {
+    while k < ROWS {
         if l.present[k] {
             let row = schema::row_at(k);
             if !schema::held(version, row) {

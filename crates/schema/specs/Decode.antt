@@ -16,7 +16,7 @@ use Rattle.codec.specs.Element.{element, tagged, exactly, both, chain, under}
 use Rattle.codec.specs.Tree.{nodes, firstPass}
 use Rattle.schema.specs.Table.{Kind, set, number32, number64, null, octets, root, Row, rows, knownVersion, heldIn, find, levelTop, hashed, top32, top64}
 use Rattle.schema.specs.Content.{RootWith, ValueWith, num, nul, oct, nums, trust, FieldWith, field, ContentWith, Content, Place, placeAt, Places, afterMember, afterField}
-use Rattle.schema.specs.Limits.{extensionBytes, extensionDepth, extensionElements}
+use Rattle.codec.specs.Limits.{extensionBytes, extensionDepth, extensionElements}
 
 -- ---- leaves: a content's own refusal is 10, at the element's start
 

@@ -1,5 +1,4 @@
 pub mod Table
-pub mod Limits
 pub mod Rows
 pub mod Content
 pub mod Decode

@@ -6,6 +6,9 @@ ghost use mathlib.Core.Path.{_≡_};
 ghost use Rattle.schema.specs.Table.{rows, rowAt, indexOf, heldIn};
 ghost use Rattle.schema.specs.Rows.{ofRow};
 
+// How many rows the table has; as a row, none.
+pub const ROWS: usize = 42;
+
 // How a field's content is read: document 01's kinds.
 pub enum Kind {
     Set,
@@ -34,7 +37,7 @@ fn make(number: usize, kind: Kind, first: u32, last: u32) -> Row
     }
 }
 
-// The place in the table of a field number, or 42.
+// The place in the table of a field number, or ROWS.
 pub fn row_of(number: usize) -> usize
     ensures { λ r. ⌜ r ≡ indexOf rows number ⌝ }
 {
@@ -81,7 +84,7 @@ pub fn row_of(number: usize) -> usize
         719 => 39,
         720 => 40,
         723 => 41,
-        _ => 42,
+        _ => ROWS,
     }
 }
 

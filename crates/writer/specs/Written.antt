@@ -8,6 +8,7 @@ use lib.ListN.{length}
 use lib.Dec.{leb}
 use Rattle.answer.specs.Answer.{Answer, got, refused, guard}
 use Rattle.answer.specs.Refusal.{illShaped, encodingTooLong, outputShort}
+use Rattle.codec.specs.Limits.{extensionBytes}
 use Rattle.codec.specs.Octets.{left}
 use Rattle.schema.specs.Content.{encode}
 use Rattle.records.specs.Content.{contentOf}
@@ -28,7 +29,7 @@ writable r s = wellShapedRecord r && partsInside r (length s)
 unfoldable pub written : Record → List ℕ → List ℕ → Answer ℕ
 written r s out =
     guard (writable r s) illShaped 0
-    (guard (leb (length (encodingOf r s)) 8192) encodingTooLong 0
+    (guard (leb (length (encodingOf r s)) extensionBytes) encodingTooLong 0
     (guard (leb (length (encodingOf r s)) (length out)) outputShort 0
     (got (length (encodingOf r s)))))
 

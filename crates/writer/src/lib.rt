@@ -7,6 +7,7 @@ use crate::size::sizes_of;
 use answer::ENCODING_TOO_LONG;
 use answer::ILL_SHAPED;
 use answer::OUTPUT_SHORT;
+use der::walk::EXTENSION_BYTES;
 use records::Record;
 use records::parts::parts_inside;
 use records::shape::well_shaped;
@@ -35,7 +36,7 @@ pub fn write(r: Record, s: &[u8], out: &mut [u8]) -> Written
     let sizes = sizes_of(s, r);
     let size = sizes.whole;
     let room = out.len();
-    if 8192 < size {
+    if EXTENSION_BYTES < size {
         return Written::Refused(ENCODING_TOO_LONG, 0);
     }
     if room < size {

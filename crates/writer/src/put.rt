@@ -17,8 +17,10 @@ use records::Security;
 use records::octets::part_octets;
 use records::shape::set_at;
 use schema::Kind;
+use schema::ROWS;
 ghost use mathlib.Core.List.{[], _∷_};
 ghost use Prim.Native.Nat.{_<_, _≤_};
+ghost use Rattle.codec.specs.Limits.{extensionBytes};
 ghost use Rattle.codec.specs.Integer.{integerElement};
 ghost use Rattle.codec.specs.Header.{identifier, headerOctets};
 ghost use Rattle.codec.specs.Element.{chainOctets};
@@ -33,7 +35,7 @@ ghost use Rattle.writer.specs.Put.{Puts};
 // tag, 1 for one that holds elements, 5 for the context tag of a field.
 fn put_header(out: &mut [u8], at: usize, form: u8, number: usize, size: usize) -> usize
     requires { ⌜ (form < 8) × (number < 16384) ⌝ }
-    ensures { λ r. ⌜ (size ≤ 8192 → Puts (now (out .entry)) at (headerOctets (identifier form number) size) (now (out .exit)) r) ⌝ }
+    ensures { λ r. ⌜ (size ≤ extensionBytes → Puts (now (out .entry)) at (headerOctets (identifier form number) size) (now (out .exit)) r) ⌝ }
 {
     match write::put_header(out, at, form, number, size) {
         Written::Next(next) => next,
@@ -223,7 +225,7 @@ fn put_fields(out: &mut [u8], at: usize, s: &[u8], l: FieldList) -> usize
 {
     let mut p = at;
     let mut place: usize = 0;
-    while place < 42 {
+    while place < ROWS {
         if l.present[place] {
             let row = schema::row_at(place);
             let kind = row.kind;

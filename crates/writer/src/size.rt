@@ -12,6 +12,7 @@ use records::Security;
 use records::octets::part_octets;
 use records::shape::set_at;
 use schema::Kind;
+use schema::ROWS;
 ghost use mathlib.Core.Path.{_≡_};
 ghost use Prim.Native.Nat.{_+_};
 ghost use Rattle.codec.specs.Integer.{integerElement};
@@ -134,7 +135,7 @@ fn fields_size(s: &[u8], l: FieldList) -> usize
 {
     let mut n: usize = 0;
     let mut place: usize = 0;
-    while place < 42 {
+    while place < ROWS {
         if l.present[place] {
             let row = schema::row_at(place);
             let kind = row.kind;
