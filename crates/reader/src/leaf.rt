@@ -115,11 +115,14 @@ pub(crate) fn read_octets(s: &[u8], at: usize, end: usize) -> Octets
 {
     match open_tagged(s, at, end, 0, 4) {
         Tagged::Refused(k, place) => Octets::Refused(k, place),
-        Tagged::Is(body, stop) => Octets::Is {
-            start: body,
-            len: stop - body,
-            next: stop,
-        },
+        Tagged::Is(body, stop) => {
+            let len = stop - body;
+            Octets::Is {
+                start: body,
+                len,
+                next: stop,
+            }
+        }
     }
 }
 

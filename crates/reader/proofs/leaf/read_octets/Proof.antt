@@ -15,8 +15,8 @@ enum-known-k c = search needs
 enum-known-body : tie.Need-enum-known-body
 enum-known-body c = search needs
 
-sub-t10 : tie.Need-sub-t10
-sub-t10 c = tagged-inside (c .before .before .before .before .before .args .at) (c .before .before .before .before .before .args .end) _ _ _ (c .before .before .before .open-tagged .ensures .1) (c .before .body .given .1) .1 .0
+sub-len : tie.Need-sub-len
+sub-len c = tagged-inside (c .before .before .before .before .before .args .at) (c .before .before .before .before .before .args .end) _ _ _ (c .before .before .before .open-tagged .ensures .1) (c .before .body .given .1) .1 .0
 
 returns : tie.Need-returns
 returns c = (search octets-no, search needs)
@@ -27,4 +27,4 @@ returns-2 c = (search octets-is, omega (arith, tagged-inside (c .before .before 
 pub read-octets-spec : {M : Type 1} → statement M
 read-octets-spec =
     tie.close
-    (tie.spec open-tagged-requires enum-known-k enum-known-body sub-t10 returns returns-2)
+    (tie.spec open-tagged-requires enum-known-k enum-known-body sub-len returns returns-2)
