@@ -38,7 +38,8 @@ use Rattle.reader.specs.declared.content.ContentRead.{ContentRead}
 use Rattle.reader.proofs.Chains.{Ahead, ahead-start, ahead-refused, ahead-more, ahead-end}
 use Rattle.reader.proofs.Bounds.{empty-in, stored-in}
 use Rattle.reader.proofs.FieldReads.{field-kept}
-use Rattle.reader.proofs.Lists.{stored-same, stored-other, upTo-one, empty-none, empty-fields}
+use Rattle.records.proofs.UpTo.{upTo-one}
+use Rattle.reader.proofs.Lists.{stored-same, stored-other, empty-none, empty-fields}
 
 pub record Filled (s : List ℕ) (at end v : ℕ) (l : FieldList) (place low : ℕ) : Type 0 where
   pub from : at ≤ place

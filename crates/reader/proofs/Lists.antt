@@ -17,6 +17,7 @@ use Rattle.schema.specs.Table.{Kind, number32, number64, null, octets, root, Ro
 use Rattle.schema.specs.Content.{ValueWith, num, nul, oct, nums, trust, FieldWith, field, Place, placeAt}
 use Rattle.schema.proofs.Table.{above}
 use Rattle.records.proofs.Placed.{by-set, by-root}
+use Rattle.records.proofs.UpTo.{upTo-to}
 use Rattle.records.specs.Content.{membersOf, rootOf, setAt, valueAt, fieldAt, upTo, fieldsOf}
 use Rattle.records.specs.Clear.{Sized}
 use Rattle.records.specs.declared.FieldList.{FieldList}
@@ -84,33 +85,6 @@ module _ (l : FieldList) (r : ℕ) (c : ContentRead) (z : Sized l) (h : r < 42) 
     values = length-set (l .values) r (c .value) ∙ z .values;
     sizes = length-set (l .sizes) r (c .size) ∙ z .sizes;
   }
-
--- ---- the fields of a list, row by row
-
-upTo-agree : (F G : ℕ → List (FieldWith Place)) (n : ℕ) → ((k : ℕ) → k < n → F k ≡ G k) → upTo F n ≡ upTo G n
-unfolding upTo
-upTo-agree F G zero h = refl
-upTo-agree F G (suc n) h = rw (upTo-agree F G n (λ k p. h k (omega arith)), h n (omega arith))
-
-upTo-none : (F : ℕ → List (FieldWith Place)) (m d : ℕ) → ((k : ℕ) → m ≤ k → k < m + d → F k ≡ []) → upTo F (m + d) ≡ upTo F m
-unfolding upTo
-upTo-none F m zero h = rw add-zero
-upTo-none F m (suc d) h = rw (add-suc, h (m + d) (omega arith) (omega arith), append-nil) (upTo-none F m d (λ k p q. h k p (omega arith)))
-
-upTo-to : (F : ℕ → List (FieldWith Place)) (m n : ℕ) → m ≤ n → ((k : ℕ) → m ≤ k → k < n → F k ≡ []) → upTo F n ≡ upTo F m
-upTo-to F m n p h = let e : m + (n - m) ≡ n = omega arith in subst (λ (x : ℕ). upTo F x ≡ upTo F m) e (upTo-none F m (n - m) (λ k a b. h k a (omega arith)))
-
--- one row more, with none above it
-pub upTo-one : (F G : ℕ → List (FieldWith Place)) (n r : ℕ) → r < n → ((k : ℕ) → k < n → (k ≡ r → ⊥) → G k ≡ F k) → ((k : ℕ) → r ≤ k → k < n → F k ≡ []) → upTo G n ≡ upTo F n ++ G r
-unfolding upTo
-upTo-one F G n r h same none =
-    let up : upTo G n ≡ upTo G (suc r) = upTo-to G (suc r) n h (λ k p q. same k q (omega arith) ∙ none k (omega arith) q) in
-    let lo : upTo G r ≡ upTo F r = upTo-agree G F r (λ k p. same k (omega arith) (omega arith)) in
-    let dn : upTo F n ≡ upTo F r = upTo-to F r n (omega arith) none in
-    up ∙ step G r ∙ rw (lo, dn) refl
-  where
-    step : (G : ℕ → List (FieldWith Place)) (r : ℕ) → upTo G (suc r) ≡ upTo G r ++ G r
-    step G r = refl
 
 -- ---- an empty list
 

@@ -11,3 +11,5 @@ pub mod ContentShaped
 pub mod Equal
 pub mod PlacesRead
 pub mod Made
+pub mod UpTo
+pub mod Making

@@ -25,12 +25,12 @@ use Rattle.records.specs.declared.FieldList.{FieldList}
 use Rattle.records.specs.declared.Record.{Record}
 use Rattle.records.proofs.Fields.{row-value}
 
-getD-map : {A B : Type 0} (f : A → B) (l : List A) (i : ℕ) (d : A) (e : B) → i < length l → getD (map f l) i e ≡ f (getD l i d)
+pub getD-map : {A B : Type 0} (f : A → B) (l : List A) (i : ℕ) (d : A) (e : B) → i < length l → getD (map f l) i e ≡ f (getD l i d)
 getD-map f [] i d e h = absurd (omega arith)
 getD-map f (x ∷ l) zero d e h = refl
 getD-map f (x ∷ l) (suc i) d e h = getD-map f l i d e (omega arith)
 
-rows-length : length rows ≡ 42
+pub rows-length : length rows ≡ 42
 unfolding rows
 rows-length = refl
 

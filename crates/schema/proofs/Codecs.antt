@@ -26,7 +26,7 @@ use Rattle.codec.proofs.Element.{element-long, element-laws, tagged-laws, exact
 use Rattle.codec.proofs.Integer.{integer-laws}
 use Rattle.codec.proofs.Chain.{chain-laws}
 use Rattle.schema.specs.Table.{Kind, set, number32, number64, null, octets, root, Row, rows, knownVersion, heldIn, find, levelTop, hashed, top32, top64}
-use Rattle.schema.specs.Content.{Root, Value, num, nul, oct, nums, trust, Field, field, Content, enumeratedElement, octetsElement, booleanElement, hashElement, rootContent, valueElement, fieldElement, listElement, keyDescription, encode, memberGood, afterMember, hashGood, valueGood, rowGood, fieldGood, afterField, listGood, wellShaped}
+use Rattle.schema.specs.Content.{RootWith, Root, ValueWith, Value, num, nul, oct, nums, trust, Field, field, Content, enumeratedElement, octetsElement, booleanElement, hashElement, rootContent, valueElement, fieldElement, listElement, keyDescription, encode, memberGood, afterMember, hashGood, valueGood, rowGood, fieldGood, afterField, listGood, wellShaped}
 use Rattle.schema.specs.Decode.{readInteger, readEnumerated, readOctets, booleanOf, readBoolean, nullOf, readNull, readMember, readSet, readHash, rootFrom, rootParts, readRoot, readValue, rowContent, fieldContent, readField, readList, readVersion, Eight, eightFrom, readEight, decodeWith, asOctets}
 
 -- ---- tests in another order
@@ -182,7 +182,7 @@ readHash-laws false = record { back = back; sound = λ p bs w o e. rw (← got-i
     back p none r t = same-taken _ _ _ _ r refl (omega arith)
     back p (some bs) r t = absurd t
 
-abbrev pub rootGood : Bool → Root → Bool
+abbrev pub rootGood : {O : Type 0} → Bool → RootWith O → Bool
 rootGood h r = leb (r .state) 3 && hashGood h (r .hash)
 
 abbrev pub rootSmall : Root → Bool
@@ -204,15 +204,15 @@ readRoot-laws h =
 -- ---- a value of each kind
 
 -- what a value that is good for a kind is
-abbrev pub Shaped : ℕ → Kind → Value → Type 0
-Shaped v number32 x = (n : ℕ) × (num n ≡ x) × T (leb n top32)
-Shaped v number64 x = (n : ℕ) × (num n ≡ x) × T (leb n top64)
-Shaped v null x = nul ≡ x
-Shaped v octets x = (bs : List ℕ) × (oct bs ≡ x)
-Shaped v set x = (l : List ℕ) × (nums l ≡ x) × T (setGood l)
-Shaped v root x = (r : Root) × (trust r ≡ x) × T (rootGood (hashed v) r)
+abbrev pub Shaped : {O : Type 0} → ℕ → Kind → ValueWith O → Type 0
+Shaped {O} v number32 x = (n : ℕ) × (num n ≡ x) × T (leb n top32)
+Shaped {O} v number64 x = (n : ℕ) × (num n ≡ x) × T (leb n top64)
+Shaped {O} v null x = nul ≡ x
+Shaped {O} v octets x = (o : O) × (oct o ≡ x)
+Shaped {O} v set x = (l : List ℕ) × (nums l ≡ x) × T (setGood l)
+Shaped {O} v root x = (r : RootWith O) × (trust r ≡ x) × T (rootGood (hashed v) r)
 
-pub shaped : (v : ℕ) (k : Kind) (x : Value) → T (valueGood v k x) → Shaped v k x
+pub shaped : {O : Type 0} (v : ℕ) (k : Kind) (x : ValueWith O) → T (valueGood v k x) → Shaped v k x
 unfolding valueGood pick
 shaped v number32 (num n) t = (n, refl, t)
 shaped v number32 nul t = absurd t
