@@ -12,3 +12,4 @@ pub mod Follow
 pub mod Encoded
 pub mod Ranges
 pub mod Refusals
+pub mod Keep

@@ -8,7 +8,7 @@ use Rattle.answer.specs.Answer.{pick}
 use Rattle.codec.specs.Octets.{Octets}
 use Rattle.schema.specs.Table.{Kind, set, number32, number64, null, octets, root, rowAt}
 use Rattle.schema.specs.Content.{Field, field}
-use Rattle.schema.specs.Parts.{HashOctets, ValueOctets, FieldsOctets, ContentOctets}
+use Rattle.schema.specs.Parts.{HashIs, ValueIs, FieldsAre, ContentOctets}
 use Rattle.records.specs.Content.{octetsAt, valueAt, fieldAt, upTo, contentOf}
 use Rattle.records.specs.declared.FieldList.{FieldList}
 use Rattle.records.specs.declared.Record.{Record}
@@ -26,17 +26,17 @@ taken (suc n) (x ∷ xs) o = (o .0, taken n xs (o .1))
 part : (a z : ℕ) (s : List ℕ) → Octets s → Octets (octetsAt s a z)
 part a z s o = taken z (drop a s) (dropped a s o)
 
-both : (xs ys : List Field) → FieldsOctets xs → FieldsOctets ys → FieldsOctets (xs ++ ys)
+both : (xs ys : List Field) → FieldsAre Octets xs → FieldsAre Octets ys → FieldsAre Octets (xs ++ ys)
 both [] ys o p = p
 both (x ∷ xs) ys o p = (o .0, both xs ys (o .1) p)
 
 module _ (l : FieldList) (s : List ℕ) (o : Octets s) where
-  hash : (h : Bool) (a z : ℕ) → HashOctets (pick h (some (octetsAt s a z)) none)
+  hash : (h : Bool) (a z : ℕ) → HashIs Octets (pick h (some (octetsAt s a z)) none)
   unfolding pick
   hash true a z = part a z s o
   hash false a z = tt
 
-  value : (n k : ℕ) (q : Kind) → ValueOctets (valueAt l (octetsAt s) n q k)
+  value : (n k : ℕ) (q : Kind) → ValueIs Octets (valueAt l (octetsAt s) n q k)
   unfolding valueAt
   value n k set = tt
   value n k number32 = tt
@@ -45,12 +45,12 @@ module _ (l : FieldList) (s : List ℕ) (o : Octets s) where
   value n k octets = part (getD (l .values) k 0) (getD (l .sizes) k 0) s o
   value n k root = (part (l .root .key .start) (l .root .key .len) s o, hash (l .root .hashed) (l .root .hash .start) (l .root .hash .len))
 
-  one : (k : ℕ) (b : Bool) → FieldsOctets (pick b (field (rowAt k .number) (valueAt l (octetsAt s) (rowAt k .number) (rowAt k .kind) k) ∷ []) [])
+  one : (k : ℕ) (b : Bool) → FieldsAre Octets (pick b (field (rowAt k .number) (valueAt l (octetsAt s) (rowAt k .number) (rowAt k .kind) k) ∷ []) [])
   unfolding pick
   one k true = (value (rowAt k .number) k (rowAt k .kind), tt)
   one k false = tt
 
-  rows : (n : ℕ) → FieldsOctets (upTo (fieldAt l (octetsAt s)) n)
+  rows : (n : ℕ) → FieldsAre Octets (upTo (fieldAt l (octetsAt s)) n)
   unfolding upTo fieldAt
   rows zero = tt
   rows (suc n) = both (upTo (fieldAt l (octetsAt s)) n) (fieldAt l (octetsAt s) n) (rows n) (one n (getD (l .present) n false))

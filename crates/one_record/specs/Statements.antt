@@ -1,5 +1,6 @@
 -- One record, one encoding: what is proved of the reader and the writer together (document 01, demands 2 and 3). Each
--- statement stands under the sentence that it renders; proofs/OneRecord.antt has the theorem of the same name.
+-- statement stands under the sentence that it renders; proofs/OneRecord.antt has the theorem of the same name. Read first
+-- AcceptedExactly, EqualSameBytes and WritesJustThat.
 use mathlib.Core.Logic.{_↔_}
 use mathlib.Core.Path.{_≡_}
 use mathlib.Core.List.{List, _++_}
@@ -7,7 +8,7 @@ use Prim.Native.Nat.{ℕ, _≤_, _<_}
 use lib.ListN.{length, take, drop}
 use lib.Dec.{T}
 use Rattle.answer.specs.Answer.{got}
-use Rattle.codec.specs.Limits.{extensionBytes}
+use Rattle.codec.specs.Limits.{extensionBytes, extensionDepth, extensionElements}
 use Rattle.codec.specs.Octets.{Octets}
 use Rattle.codec.specs.Tree.{Node, nodes, firstPass}
 use Rattle.schema.specs.Content.{Content, encode, wellShaped}
@@ -24,6 +25,23 @@ use Rattle.reader.specs.Reading.{Reads}
 use Rattle.writer.specs.declared.Written.{Written}
 use Rattle.writer.specs.Written.{encodingOf, Writes}
 use Rattle.one_record.specs.Contracts.{ReadsAs}
+
+-- "Any bytes .. get an answer": there is an outcome and a record that the contract of `read` allows, and no other
+abbrev pub OneAnswer : Type 0
+OneAnswer =
+    (s : List ℕ) → Octets s
+    → (o : Outcome) × (r : Record) × Reads s o r × ((o′ : Outcome) (r′ : Record) → Reads s o′ r′ → (o′ ≡ o) × (r′ ≡ r))
+
+-- "each refusal has the number .. fixed in document 01": a refused read has a number from 1 to 14, and from 8 to 14 where the
+-- first pass accepts
+abbrev pub ReadRefuses : Type 0
+ReadRefuses = (s : List ℕ) (k p : ℕ) (r : Record) → Octets s → Reads s (Outcome.Refused k p) r → (1 ≤ k) × (k ≤ 14)
+
+abbrev pub SchemaRefuses : Type 0
+SchemaRefuses =
+    (s : List ℕ) (k p : ℕ) (r : Record) (t : Node) → Octets s → firstPass extensionBytes extensionDepth extensionElements s ≡ got t
+    → Reads s (Outcome.Refused k p) r
+    → (8 ≤ k) × (k ≤ 14)
 
 -- "An extension is read exactly when it is DER of the published schema of its version, within document 01's limits": bytes
 -- are accepted if and only if they are the encoding of some well-shaped content and at most 8,192 long

@@ -13,3 +13,4 @@ pub mod PlacesRead
 pub mod Made
 pub mod UpTo
 pub mod Making
+pub mod PartsLie

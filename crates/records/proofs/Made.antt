@@ -16,7 +16,7 @@ use Rattle.records.specs.Fields.{fieldValue}
 use Rattle.records.specs.Content.{membersOf, rootOf, setAt, valueAt, fieldsOf, placesOf}
 use Rattle.records.specs.Equal.{presentAt}
 use Rattle.records.specs.Slots.{SetInSlots, InSlots}
-use Rattle.records.specs.Empty.{emptySet, emptyRoot}
+use Rattle.records.specs.Empty.{emptySet, emptyRoot, emptyList, emptyRecord}
 use Rattle.records.specs.Made.{partAt, isThere, valueWord, sizeWord, orZero, setOf, membersIn, isHashed, hashAt, rootMade, rootIn, listMade, recordMade}
 use Rattle.records.specs.Clear.{usesValue, usesSize, SpareClear, HashClear, SetClear, RootClear, Sized, ListClear}
 use Rattle.records.specs.declared.NumberSet.{NumberSet}
@@ -161,3 +161,31 @@ module _ (l : FieldList) (z : Sized l) (s : InSlots l) (c : ListClear l) where
 -- the record is just what its places make
 pub record-made : (r : Record) → Sized (r .software) → InSlots (r .software) → ListClear (r .software) → Sized (r .hardware) → InSlots (r .hardware) → ListClear (r .hardware) → recordMade (placesOf r) ≡ r
 record-made r z s c y i d = rw (list-made (r .software) z s c, list-made (r .hardware) y i d) refl
+
+-- ---- a record of nothing
+
+pub empty-sized : Sized emptyList
+empty-sized = record { present = refl; values = refl; sizes = refl }
+
+pub empty-slots : InSlots emptyList
+empty-slots = record { purpose = (omega arith, refl); digest = (omega arith, refl); padding = (omega arith, refl); mgf = (omega arith, refl) }
+
+pub empty-spare : SpareClear emptySet
+empty-spare k p q = getD-replicate {A = ℕ} 16 k 0 0 q
+
+set-nothing : (b : Bool) → SetClear b emptySet
+set-nothing b = record { spare = empty-spare; absent = λ e. refl }
+
+pub empty-clear : ListClear emptyList
+empty-clear = record {
+  value = λ k h e. getD-replicate {A = ℕ} 42 k 0 0 h;
+  size = λ k h e. getD-replicate {A = ℕ} 42 k 0 0 h;
+  purpose = set-nothing _;
+  digest = set-nothing _;
+  padding = set-nothing _;
+  mgf = set-nothing _;
+  root = record { hash = λ e. refl; absent = λ e. refl };
+}
+
+pub empty-made : recordMade (placesOf emptyRecord) ≡ emptyRecord
+empty-made = record-made emptyRecord empty-sized empty-slots empty-clear empty-sized empty-slots empty-clear

@@ -7,18 +7,19 @@ use mathlib.Core.List.{List, [], _∷_, _++_, map}
 use Prim.Native.Nat.{ℕ, zero, suc, _+_, _<_, _≤_}
 use native.Mathlib.Omega.{arith}
 use lib.Dec.{T, leb, ltb, eqb, leb→le, ltb→lt}
-use lib.ListN.{length, getD, take, replicate}
-use lib.Seq.{take-take, take-append-seam, take-append-le}
+use lib.ListN.{length, getD, take, replicate, length-append, length-replicate}
+use lib.Seq.{length-take-le, take-take, take-append-seam, take-append-le}
 use borrow.Author.Tests.{eq-eqb, ne-eqb, eqb-true, eqb-false}
 use Rattle.answer.specs.Answer.{pick}
 use Rattle.answer.proofs.Logic.{by-le, and-left, and-right}
 use Rattle.codec.specs.Element.{chainGood}
-use Rattle.schema.specs.Table.{Kind, set, number32, number64, null, octets, root, Row, row, rows, rowAt, indexOf, find, heldIn, hashed, knownVersion, levelTop, top32}
+use Rattle.schema.specs.Table.{Kind, isKind, set, number32, number64, null, octets, root, Row, row, rows, rowAt, indexOf, find, heldIn, hashed, knownVersion, levelTop, top32}
 use Rattle.schema.specs.Content.{RootWith, ValueWith, num, nul, oct, nums, trust, FieldWith, field, Place, placeAt, Places, memberGood, afterMember, valueGood, rowGood, fieldGood, afterField, listGood, wellShaped}
 use Rattle.schema.proofs.Codecs.{shaped}
 use Rattle.schema.proofs.Table.{above, find-place, find-none}
 use Rattle.records.specs.Fields.{fieldValue}
 use Rattle.records.specs.Content.{membersOf, rootOf, setAt, valueAt, fieldAt, upTo, fieldsOf, placesOf}
+use Rattle.records.specs.Slots.{SetInSlots, InSlots}
 use Rattle.records.specs.Made.{isThere, valueWord, sizeWord, orZero, setOf, membersIn, isHashed, hashAt, rootMade, rootIn, listMade, recordMade}
 use Rattle.records.specs.declared.FieldList.{FieldList}
 use Rattle.records.proofs.Placed.{by-set, by-root}
@@ -140,6 +141,39 @@ all-rows v low (f ∷ fs) t =
         (λ p. let q : k ≡ indexOf rows (f .number) = omega arith in rw (q, e) (omega arith))
         (λ p. omega (arith, above k (indexOf rows (f .number)) p c))
 
+-- ---- the sets that are made keep to their slots
+
+-- a set's members are few, by whatever row its value has
+members-of : (v : ℕ) (k : Kind) (x : ValueWith Place) → T (valueGood v k x) → length (membersIn (some x)) ≤ 16
+unfolding valueGood membersIn
+members-of v k (num n) t = omega arith
+members-of v k nul t = omega arith
+members-of v k (oct p) t = omega arith
+members-of v k (nums l) t = omega (arith, members-few (0, 0) l (omega arith) (and-right (isKind set k) _ t))
+members-of v k (trust r) t = omega arith
+
+few-of : (v : ℕ) (w : Option Row) (x : ValueWith Place) → T (rowGood v w x) → length (membersIn (some x)) ≤ 16
+unfolding rowGood
+few-of v none x t = absurd t
+few-of v (some w) x t = members-of v (w .kind) x (and-right (heldIn v w) _ t)
+
+few : (v : ℕ) (fs : List (FieldWith Place)) → T (chainGood (fieldGood v) afterField 0 fs) → (n : ℕ) (o : Option (ValueWith Place)) → fieldValue fs n ≡ o → length (membersIn o) ≤ 16
+unfolding membersIn
+few v fs t n none e = omega arith
+few v fs t n (some x) e = few-of v (find rows n) x (value-good v 0 n fs x t e)
+
+in-slots : (l : List ℕ) → length l ≤ 16 → SetInSlots (setOf l)
+in-slots l h = (h, length-take-le 16 (l ++ replicate 16 0) (omega (arith, length-append l (replicate 16 0), length-replicate {A = ℕ} 16 0)))
+
+list-slots : (v : ℕ) (fs : List (FieldWith Place)) → T (listGood v fs) → InSlots (listMade fs)
+unfolding listGood
+list-slots v fs t = record {
+  purpose = in-slots (membersIn (fieldValue fs 1)) (few v fs t 1 (fieldValue fs 1) refl);
+  digest = in-slots (membersIn (fieldValue fs 5)) (few v fs t 5 (fieldValue fs 5) refl);
+  padding = in-slots (membersIn (fieldValue fs 6)) (few v fs t 6 (fieldValue fs 6) refl);
+  mgf = in-slots (membersIn (fieldValue fs 203)) (few v fs t 203 (fieldValue fs 203) refl);
+}
+
 -- the record that a content's places make says that content
 module _ (c : Places) (t : T (wellShaped c)) where
   list-says : (v : ℕ) (fs : List (FieldWith Place)) → T (listGood v fs) → fieldsOf (listMade fs) placeAt ≡ fs
@@ -152,3 +186,10 @@ module _ (c : Places) (t : T (wellShaped c)) where
       let v : ℕ = c .version in
       let g = and-right (leb (c .keymintLevel) (levelTop v)) _ (and-right (leb (c .keymint) top32) _ (and-right (leb (c .level) (levelTop v)) _ (and-right (knownVersion v) _ t))) in
       rw (list-says v (c .software) (and-left (listGood v (c .software)) _ g), list-says v (c .hardware) (and-right (listGood v (c .software)) _ g)) refl
+
+  pub made-slots : InSlots (recordMade c .software) × InSlots (recordMade c .hardware)
+  unfolding wellShaped
+  made-slots =
+      let v : ℕ = c .version in
+      let g = and-right (leb (c .keymintLevel) (levelTop v)) _ (and-right (leb (c .keymint) top32) _ (and-right (leb (c .level) (levelTop v)) _ (and-right (knownVersion v) _ t))) in
+      (list-slots v (c .software) (and-left (listGood v (c .software)) _ g), list-slots v (c .hardware) (and-right (listGood v (c .software)) _ g))

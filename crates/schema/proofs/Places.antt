@@ -25,7 +25,7 @@ module _ (s : List ℕ) where
   unfolding mapAnswer
   looked p q bs a = rw (at-octets s q bs a) refl
 
-  octets-follow : Follows s (octetsIn s) (readOctets asPlace) (readOctets asOctets)
+  pub octets-follow : Follows s (octetsIn s) (readOctets asPlace) (readOctets asOctets)
   unfolding readOctets
   octets-follow = tagged-follows s (octetsIn s) wrongElement (identifier 0 4) (λ p q bs. got (asPlace q bs)) (λ p q bs. got (asOctets q bs)) looked
 
@@ -74,13 +74,13 @@ module _ (s : List ℕ) where
       guarded _ (heldIn v r) notInVersion p _ _
       (guarded _ (leb low n) fieldOrder p _ _ (rw (value-follow v (r .kind) p q bs a) (field-moved n (readValue asPlace v (r .kind) p q bs))))
 
-  field-follow : (v low : ℕ) → Follows s (mapField (octetsIn s)) (readField asPlace v low) (readField asOctets v low)
+  pub field-follow : (v low : ℕ) → Follows s (mapField (octetsIn s)) (readField asPlace v low) (readField asOctets v low)
   unfolding readField fieldContent
   field-follow v low =
       element-follows s (mapField (octetsIn s)) wrongElement (fieldContent asPlace v low) (fieldContent asOctets v low)
       (λ i p q bs a. guarded _ (eqb (i .form) 5) wrongElement p _ _ (row-follow v low (i .number) (find rows (i .number)) p q bs a))
 
-  list-follow : (v : ℕ) → Follows s (map (mapField (octetsIn s))) (readList asPlace v) (readList asOctets v)
+  pub list-follow : (v : ℕ) → Follows s (map (mapField (octetsIn s))) (readList asPlace v) (readList asOctets v)
   unfolding readList
   list-follow v =
       tagged-follows s (map (mapField (octetsIn s))) wrongElement (identifier 1 16) _ _

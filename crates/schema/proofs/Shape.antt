@@ -13,7 +13,7 @@ use Rattle.codec.specs.Integer.{integerElement}
 use Rattle.codec.specs.Element.{chainOctets}
 use Rattle.codec.proofs.Element.{element-length}
 use Rattle.schema.specs.Content.{Root, Value, num, nul, oct, nums, trust, Field, Content, enumeratedElement, octetsElement, booleanElement, hashElement, rootContent, valueElement, fieldElement, listElement, keyDescription, encode, wellShaped}
-use Rattle.schema.specs.Parts.{HashOctets, ValueOctets, FieldsOctets, ContentOctets}
+use Rattle.schema.specs.Parts.{HashIs, ValueIs, FieldsAre, ContentOctets}
 use Rattle.schema.proofs.Codecs.{areOctets, are-octets, octetsSmall, hashSmall, rootSmall, valueSmall, fieldSmall, fieldsSmall, listSmall, small, good}
 
 -- ---- from what is good
@@ -25,22 +25,22 @@ octets-of (x ∷ bs) t = (ltb→lt x 256 (and-left (ltb x 256) _ t), octets-of b
 pub octets-from : (bs : List ℕ) → T (octetsSmall bs) → Octets bs
 octets-from bs t = octets-of bs (and-left (areOctets bs) _ t)
 
-hash-from : (o : Option (List ℕ)) → T (hashSmall o) → HashOctets o
+hash-from : (o : Option (List ℕ)) → T (hashSmall o) → HashIs Octets o
 hash-from none t = tt
 hash-from (some bs) t = octets-from bs t
 
-value-from : (x : Value) → T (valueSmall x) → ValueOctets x
+value-from : (x : Value) → T (valueSmall x) → ValueIs Octets x
 value-from (num n) t = tt
 value-from nul t = tt
 value-from (oct bs) t = octets-from bs t
 value-from (nums l) t = tt
 value-from (trust r) t = (octets-from (r .key) (and-left (octetsSmall (r .key)) _ t), hash-from (r .hash) (and-left (hashSmall (r .hash)) _ (and-right (octetsSmall (r .key)) _ t)))
 
-fields-from : (fs : List Field) → T (fieldsSmall fs) → FieldsOctets fs
+fields-from : (fs : List Field) → T (fieldsSmall fs) → FieldsAre Octets fs
 fields-from [] t = tt
 fields-from (f ∷ fs) t = (value-from (f .value) (and-left (valueSmall (f .value)) _ (and-left (fieldSmall f) _ t)), fields-from fs (and-right (fieldSmall f) _ t))
 
-list-from : (fs : List Field) → T (listSmall fs) → FieldsOctets fs
+list-from : (fs : List Field) → T (listSmall fs) → FieldsAre Octets fs
 list-from fs t = fields-from fs (and-left (fieldsSmall fs) _ t)
 
 pub good-shaped : (c : Content) → T (good c) → T (wellShaped c)
@@ -76,12 +76,12 @@ octets-to : (bs : List ℕ) → Octets bs → length (octetsElement bs) < 65536 
 unfolding octetsElement
 octets-to bs o h = and-both (areOctets bs) _ (are-octets bs o) (good-length bs (inside (identifier 0 4) bs h))
 
-hash-to : (o : Option (List ℕ)) → HashOctets o → length (hashElement o) < 65536 → T (hashSmall o)
+hash-to : (o : Option (List ℕ)) → HashIs Octets o → length (hashElement o) < 65536 → T (hashSmall o)
 unfolding hashElement
 hash-to none o h = tt
 hash-to (some bs) o h = octets-to bs o h
 
-root-to : (r : Root) → Octets (r .key) → HashOctets (r .hash) → length (rootContent r) < 65536 → T (rootSmall r)
+root-to : (r : Root) → Octets (r .key) → HashIs Octets (r .hash) → length (rootContent r) < 65536 → T (rootSmall r)
 unfolding rootContent
 root-to r o u h =
     let h₁ = right-of (octetsElement (r .key)) _ h in
@@ -89,7 +89,7 @@ root-to r o u h =
     let h₃ = right-of (enumeratedElement (r .state)) _ h₂ in
     and-both (octetsSmall (r .key)) _ (octets-to (r .key) o (left-of (octetsElement (r .key)) _ h)) (and-both (hashSmall (r .hash)) _ (hash-to (r .hash) u h₃) (good-length (rootContent r) h))
 
-value-to : (x : Value) → ValueOctets x → length (valueElement x) < 65536 → T (valueSmall x)
+value-to : (x : Value) → ValueIs Octets x → length (valueElement x) < 65536 → T (valueSmall x)
 unfolding valueElement
 value-to (num n) o h = tt
 value-to nul o h = tt
@@ -97,18 +97,18 @@ value-to (oct bs) o h = octets-to bs o h
 value-to (nums l) o h = good-length (chainOctets integerElement l) (inside (identifier 1 17) (chainOctets integerElement l) h)
 value-to (trust r) o h = root-to r (o .0) (o .1) (inside (identifier 1 16) (rootContent r) h)
 
-field-to : (f : Field) → ValueOctets (f .value) → length (fieldElement f) < 65536 → T (fieldSmall f)
+field-to : (f : Field) → ValueIs Octets (f .value) → length (fieldElement f) < 65536 → T (fieldSmall f)
 unfolding fieldElement
 field-to f o h =
     let h₁ = inside (identifier 5 (f .number)) (valueElement (f .value)) h in
     and-both (valueSmall (f .value)) _ (value-to (f .value) o h₁) (good-length (valueElement (f .value)) h₁)
 
-fields-to : (fs : List Field) → FieldsOctets fs → length (chainOctets fieldElement fs) < 65536 → T (fieldsSmall fs)
+fields-to : (fs : List Field) → FieldsAre Octets fs → length (chainOctets fieldElement fs) < 65536 → T (fieldsSmall fs)
 fields-to [] o h = tt
 fields-to (f ∷ fs) o h =
     and-both (fieldSmall f) _ (field-to f (o .0) (left-of (fieldElement f) (chainOctets fieldElement fs) h)) (fields-to fs (o .1) (right-of (fieldElement f) (chainOctets fieldElement fs) h))
 
-list-to : (fs : List Field) → FieldsOctets fs → length (listElement fs) < 65536 → T (listSmall fs)
+list-to : (fs : List Field) → FieldsAre Octets fs → length (listElement fs) < 65536 → T (listSmall fs)
 unfolding listElement
 list-to fs o h =
     let h₁ = inside (identifier 1 16) (chainOctets fieldElement fs) h in

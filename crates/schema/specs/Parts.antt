@@ -1,25 +1,29 @@
--- Document 01, of a record: "Its octet parts are the challenge, the uniqueId and those of present fields". A content's
--- octet parts are lists of numbers; here that each of them is octets.
+-- Document 01, of a record: "Its octet parts are the challenge, the uniqueId and those of present fields". What each octet
+-- part of a content is.
 use mathlib.Core.Option.{Option, none, some}
 use mathlib.Core.List.{List, [], _∷_}
-use Prim.Native.Nat.{ℕ}
 use Rattle.codec.specs.Octets.{Octets}
-use Rattle.schema.specs.Content.{Root, Value, num, nul, oct, nums, trust, Field, Content}
+use Rattle.schema.specs.Content.{RootWith, ValueWith, num, nul, oct, nums, trust, FieldWith, ContentWith, Content}
 
-abbrev pub HashOctets : Option (List ℕ) → Type 0
-HashOctets none = Unit {0}
-HashOctets (some bs) = Octets bs
+module _ {O : Type 0} (Is : O → Type 0) where
+  abbrev pub HashIs : Option O → Type 0
+  HashIs none = Unit {0}
+  HashIs (some o) = Is o
 
-abbrev pub ValueOctets : Value → Type 0
-ValueOctets (num n) = Unit {0}
-ValueOctets nul = Unit {0}
-ValueOctets (oct bs) = Octets bs
-ValueOctets (nums l) = Unit {0}
-ValueOctets (trust r) = Octets (r .key) × HashOctets (r .hash)
+  abbrev pub ValueIs : ValueWith O → Type 0
+  ValueIs (num n) = Unit {0}
+  ValueIs nul = Unit {0}
+  ValueIs (oct o) = Is o
+  ValueIs (nums l) = Unit {0}
+  ValueIs (trust r) = Is (r .key) × HashIs (r .hash)
 
-abbrev pub FieldsOctets : List Field → Type 0
-FieldsOctets [] = Unit {0}
-FieldsOctets (f ∷ fs) = ValueOctets (f .value) × FieldsOctets fs
+  abbrev pub FieldsAre : List (FieldWith O) → Type 0
+  FieldsAre [] = Unit {0}
+  FieldsAre (f ∷ fs) = ValueIs (f .value) × FieldsAre fs
 
+  abbrev pub EachPart : ContentWith O → Type 0
+  EachPart c = Is (c .challenge) × Is (c .unique) × FieldsAre (c .software) × FieldsAre (c .hardware)
+
+-- each part is octets
 abbrev pub ContentOctets : Content → Type 0
-ContentOctets c = Octets (c .challenge) × Octets (c .unique) × FieldsOctets (c .software) × FieldsOctets (c .hardware)
+ContentOctets c = EachPart Octets c
