@@ -88,10 +88,10 @@ pub means-39 : (ns nh : Bool) (s h : Option ℕ) → Means (not (authMissing ns 
 unfolding authMissing
 means-39 ns nh s h = twice (one-of (one-of (true-flag ns) (true-flag nh)) (held s h))
 
-pub means-40 : (token : Bool) (type : ℕ) (s h : Option ℕ) → Means (not (tokenRefused token type s h)) (Each s h (λ kinds. (token ≡ true) × (bitAnd type kinds ≡ 0 → ⊥)))
+pub means-40 : (token : Bool) (kinds : ℕ) (s h : Option ℕ) → Means (not (tokenRefused token kinds s h)) (Each s h (λ wanted. (token ≡ true) × (bitAnd kinds wanted ≡ 0 → ⊥)))
 unfolding tokenRefused
-means-40 token type s h =
-    twice (each (λ kinds. token && not (eqb (bitAnd type kinds) 0)) (λ kinds. (token ≡ true) × (bitAnd type kinds ≡ 0 → ⊥)) (λ kinds. both (true-flag token) (negated (equal (bitAnd type kinds) 0))) s h)
+means-40 token kinds s h =
+    twice (each (λ wanted. token && not (eqb (bitAnd kinds wanted) 0)) (λ wanted. (token ≡ true) × (bitAnd kinds wanted ≡ 0 → ⊥)) (λ wanted. both (true-flag token) (negated (equal (bitAnd kinds wanted) 0))) s h)
 
 picked : {a b c : Bool} {P Q R : Type 0} → Means a P → Means b Q → Means c R → Means (pick a b c) ((P → Q) × ((P → ⊥) → R))
 unfolding pick

@@ -11,8 +11,8 @@ use Rattle.ruling.specs.Rules.{Rules}
 use Rattle.ruling.specs.Checks.{agreed, expiry, clockRefused, expiryRefused}
 use Rattle.ruling.specs.Ruling.{shapeChecks, dateChecks, tokenChecks, deviceChecks, checks}
 use Rattle.ruling.specs.Allowed.{Held, Each, Allowed, Signing, Deciphering}
+use Rattle.ruling.specs.Statements.{Clear}
 use Rattle.ruling.specs.declared.request.Request.{Request}
-use Rattle.ruling.proofs.First.{Clear}
 use Rattle.ruling.proofs.CheckMeanings.{Fits, means-30, means-31, means-32, means-33, means-34, means-35, means-36, means-37, means-38, signing, deciphering, means-39, means-40, means-41, means-forbids, means-wants, means-46}
 use Rattle.ruling.proofs.Shaping.{agreed-says, agreed-is, shape-of, shape-known, shape-fits, shape-padding, shape-digest, known-side}
 
@@ -94,7 +94,7 @@ module _ (s h : Rules) (q : Request) where
         unlocked = means-forbids (s .unlocked) (h .unlocked) (q .locked) .to k42;
         presence = means-wants (s .presence) (h .presence) (q .present) .to k43;
         confirmation = means-wants (s .confirmation) (h .confirmation) (q .confirmed) .to k44;
-        earlyBoot = means-forbids (s .earlyBoot) (h .earlyBoot) (q .booted) .to k45;
+        earlyBoot = means-forbids (s .earlyBoot) (h .earlyBoot) (q .«early_boot_over») .to k45;
         useLimit = means-46 (q .uses) (s .useLimit) (h .useLimit) .to k46;
       }
 
@@ -139,7 +139,7 @@ module _ (s h : Rules) (q : Request) where
                                   (
                                     means-wants (s .confirmation) (h .confirmation) (q .confirmed) .from (w .confirmation),
                                     (
-                                      means-forbids (s .earlyBoot) (h .earlyBoot) (q .booted) .from (w .earlyBoot),
+                                      means-forbids (s .earlyBoot) (h .earlyBoot) (q .«early_boot_over») .from (w .earlyBoot),
                                       (means-46 (q .uses) (s .useLimit) (h .useLimit) .from (w .useLimit), tt),
                                     ),
                                   ),

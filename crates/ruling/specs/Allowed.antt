@@ -75,7 +75,7 @@ pub record Allowed (s h : Rules) (q : Request) : Type 0 where
   -- 39
   pub auth : Either (s .noAuth) (h .noAuth) ⊎ Held (s .authType) (h .authType)
   -- 40
-  pub token : Each (s .authType) (h .authType) (λ kinds. (q .token .there ≡ true) × (bitAnd (q .token .kinds) kinds ≡ 0 → ⊥))
+  pub token : Each (s .authType) (h .authType) (λ wanted. (q .token .there ≡ true) × (bitAnd (q .token .kinds) wanted ≡ 0 → ⊥))
   -- 41
   pub recent : Held (s .authType) (h .authType)
       → Each (s .authTimeout) (h .authTimeout) (λ seconds. (q .token .time ≤ q .uptime) × (q .uptime - q .token .time ≤ 1000 * seconds))
@@ -84,5 +84,5 @@ pub record Allowed (s h : Rules) (q : Request) : Type 0 where
   pub unlocked : Either (s .unlocked) (h .unlocked) → q .locked ≡ false
   pub presence : Either (s .presence) (h .presence) → q .present ≡ true
   pub confirmation : Either (s .confirmation) (h .confirmation) → q .confirmed ≡ true
-  pub earlyBoot : Either (s .earlyBoot) (h .earlyBoot) → q .booted ≡ false
+  pub earlyBoot : Either (s .earlyBoot) (h .earlyBoot) → q .«early_boot_over» ≡ false
   pub useLimit : Each (s .useLimit) (h .useLimit) (λ limit. q .uses < limit)

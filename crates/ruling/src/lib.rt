@@ -1,9 +1,9 @@
 // The use ruling (document 01, "The use ruling"): whether a key may be put to a use, by the rules of both its lists.
-pub mod checks;
-pub mod marks;
-pub mod order;
+mod checks;
+mod marks;
+mod order;
 pub mod request;
-pub mod rules;
+mod rules;
 
 use answer::ILL_SHAPED;
 use records::Record;
@@ -30,8 +30,8 @@ fn looked_at(s: Rules, h: Rules, q: Request) -> [bool; 16]
 {
     let sa = s.algorithm;
     let ha = h.algorithm;
-    let st = s.auth;
-    let ht = h.auth;
+    let st = s.auth_type;
+    let ht = h.auth_type;
     marks::looked(
         q.purpose,
         checks::agreed(sa, ha),
@@ -41,17 +41,17 @@ fn looked_at(s: Rules, h: Rules, q: Request) -> [bool; 16]
 }
 
 // The ruling by the rules of both lists: the first refusal, or a permit with its marks.
-fn ruled(level: u32, keymint: u32, s: Rules, h: Rules, q: Request) -> Ruling
-    ensures { λ a. ⌜ ofRuling a ≡ ruled level keymint (ofRules s) (ofRules h) q ⌝ }
+fn ruled(level: u32, keymint_level: u32, s: Rules, h: Rules, q: Request) -> Ruling
+    ensures { λ a. ⌜ ofRuling a ≡ ruled level «keymint_level» (ofRules s) (ofRules h) q ⌝ }
 {
     let number = order::first_refusal(s, h, q);
     if number != 0 {
         return Ruling::Refused(number, 0);
     }
     let asked = looked_at(s, h, q);
-    let hardware = marks::mark_of(marks::held(h), asked);
-    let software = marks::mark_of(marks::held(s), asked);
-    marks::permit(level, keymint, hardware, software)
+    let hardware = marks::mark_of(marks::held_tags(h), asked);
+    let software = marks::mark_of(marks::held_tags(s), asked);
+    marks::permit(level, keymint_level, hardware, software)
 }
 
 // Whether, and by which rules, a key of this record may be put to this use; a record that is not well-shaped gives 20.

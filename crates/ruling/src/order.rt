@@ -54,8 +54,8 @@ fn shape_refusal(s: Rules, h: Rules, q: Request) -> u8
     if checks::digest_refused(p, a, m, d, sd, hd) {
         return DIGEST_NOT_ALLOWED;
     }
-    let sk = s.size;
-    let hk = h.size;
+    let sk = s.key_size;
+    let hk = h.key_size;
     if checks::key_size_refused(p, a, m, d, sk, hk) {
         return KEY_TOO_SMALL;
     }
@@ -93,16 +93,16 @@ fn token_refusal(s: Rules, h: Rules, q: Request) -> u8
     ensures { λ n. ⌜ n ≡ firstRefusing (tokenChecks (ofRules s) (ofRules h) q) ⌝ }
 {
     let token = q.token;
-    let sa = s.auth;
-    let ha = h.auth;
-    if checks::auth_missing(s.noauth, h.noauth, sa, ha) {
+    let sa = s.auth_type;
+    let ha = h.auth_type;
+    if checks::auth_missing(s.no_auth, h.no_auth, sa, ha) {
         return NO_AUTH_RULE;
     }
     if checks::token_refused(token.there, token.kinds, sa, ha) {
         return TOKEN_UNFIT;
     }
-    let st = s.timeout;
-    let ht = h.timeout;
+    let st = s.auth_timeout;
+    let ht = h.auth_timeout;
     if checks::fresh_refused(
         q.uptime,
         token.time,
@@ -131,11 +131,11 @@ fn device_refusal(s: Rules, h: Rules, q: Request) -> u8
     if checks::null_refused(s.confirmation, h.confirmation, !q.confirmed) {
         return NOT_CONFIRMED;
     }
-    if checks::null_refused(s.early, h.early, q.booted) {
+    if checks::null_refused(s.early_boot, h.early_boot, q.early_boot_over) {
         return EARLY_BOOT_OVER;
     }
-    let sl = s.limit;
-    let hl = h.limit;
+    let sl = s.use_limit;
+    let hl = h.use_limit;
     if checks::uses_refused(q.uses, sl, hl) {
         return USED_UP;
     }
@@ -143,7 +143,7 @@ fn device_refusal(s: Rules, h: Rules, q: Request) -> u8
 }
 
 // 30 to 46.
-pub fn first_refusal(s: Rules, h: Rules, q: Request) -> u8
+pub(crate) fn first_refusal(s: Rules, h: Rules, q: Request) -> u8
     ensures { λ n. ⌜ n ≡ firstRefusing (checks (ofRules s) (ofRules h) q) ⌝ }
 {
     let shape = shape_refusal(s, h, q);

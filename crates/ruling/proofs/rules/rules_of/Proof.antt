@@ -1,5 +1,5 @@
 -- `ruling::rules::rules_of` meets its contract: each tag by its row. Assumes nothing.
-use Rattle.ruling.proofs.Tags.{rules-by-tags}
+use Rattle.ruling.proofs.TagRows.{tags-by-rows}
 use borrow.Author.Needs.{needs}
 use Rattle.ruling.proofs.rules.rules_of.Statement.{statement}
 use Rattle.ruling.proofs.rules.rules_of.Tie as tie
@@ -114,7 +114,9 @@ returns c =
     let d = c .before .before .before in
     let s = d .before .before .before .before in
     let l = s .before .before .before .before .before .before .before .before .before .args .l in
-    rules-by-tags l (s .before .before .before .set-tag .result) (s .before .set-tag2 .result) (s .set-tag3 .result) (s .before .before .number-tag .result) (d .before .before .before .number-tag2 .result) (d .before .before .number-tag3 .result) (d .before .number-tag4 .result) (d .number-tag5 .result) (c .before .before .number-tag6 .result) (c .before .number-tag7 .result) (c .number-tag8 .result) (s .before .before .before .set-tag .ensures) (s .before .before .number-tag .ensures) (s .before .set-tag2 .ensures) (s .set-tag3 .ensures) (d .before .before .before .number-tag2 .ensures) (d .before .before .number-tag3 .ensures) (d .before .number-tag4 .ensures) (d .number-tag5 .ensures) (c .before .before .number-tag6 .ensures) (c .before .number-tag7 .ensures) (c .number-tag8 .ensures)
+    tags-by-rows l (s .before .before .before .set-tag .ensures) (s .before .before .number-tag .ensures) (s .before .set-tag2 .ensures) (s .set-tag3 .ensures)
+    (d .before .before .before .number-tag2 .ensures) (d .before .before .number-tag3 .ensures) (d .before .number-tag4 .ensures) (d .number-tag5 .ensures)
+    (c .before .before .number-tag6 .ensures) (c .before .number-tag7 .ensures) (c .number-tag8 .ensures)
 
 pub rules-of-spec : {M : Type 1} → statement M
 rules-of-spec =
