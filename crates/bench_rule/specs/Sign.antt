@@ -21,7 +21,7 @@ signAt clock = record {
   locked = false;
   present = true;
   confirmed = true;
-  booted = true;
+  «early_boot_over» = true;
   uses = 0;
 }
 

@@ -32,7 +32,7 @@ fn sign(clock: u64) -> Request
         locked: false,
         present: true,
         confirmed: true,
-        booted: true,
+        early_boot_over: true,
         uses: 0,
     }
 }
