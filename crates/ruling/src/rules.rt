@@ -2,6 +2,9 @@
 use records::FieldList;
 use records::NumberSet;
 ghost use mathlib.Core.Path.{_≡_};
+ghost use mathlib.Core.Bool.{false};
+ghost use Prim.Native.Nat.{_<_};
+ghost use lib.ListN.{getD};
 ghost use Rattle.records.specs.Content.{membersOf};
 ghost use Rattle.ruling.specs.Rules.{saidFields, rulesOf};
 ghost use Rattle.ruling.specs.Code.{given, ofNumberTag, ofSetTag, ofRules};
@@ -74,10 +77,14 @@ const ROW_CONFIRMATION: usize = 19; // 508
 
 const ROW_UNLOCKED: usize = 20; // 509
 
-fn number_tag(there: bool, value: u64) -> NumberTag
-    ensures { λ t. ⌜ ofNumberTag t ≡ given there value ⌝ }
+fn number_at(present: [bool; 42], values: [u64; 42], row: usize) -> NumberTag
+    requires { ⌜ row < 42 ⌝ }
+    ensures { λ t. ⌜ ofNumberTag t ≡ given (getD present row false) (getD values row 0) ⌝ }
 {
-    NumberTag { there, value }
+    NumberTag {
+        there: present[row],
+        value: values[row],
+    }
 }
 
 fn set_tag(there: bool, set: NumberSet) -> SetTag
@@ -97,20 +104,20 @@ pub(crate) fn rules_of(l: FieldList) -> Rules
     let digest = l.digest;
     Rules {
         purpose: set_tag(present[ROW_PURPOSE], purpose),
-        algorithm: number_tag(present[ROW_ALGORITHM], values[ROW_ALGORITHM]),
+        algorithm: number_at(present, values, ROW_ALGORITHM),
         padding: set_tag(present[ROW_PADDING], padding),
         digest: set_tag(present[ROW_DIGEST], digest),
-        key_size: number_tag(present[ROW_KEY_SIZE], values[ROW_KEY_SIZE]),
-        active: number_tag(present[ROW_ACTIVE], values[ROW_ACTIVE]),
-        origination: number_tag(present[ROW_ORIGINATION], values[ROW_ORIGINATION]),
-        usage: number_tag(present[ROW_USAGE], values[ROW_USAGE]),
-        auth_type: number_tag(present[ROW_AUTH_TYPE], values[ROW_AUTH_TYPE]),
-        auth_timeout: number_tag(present[ROW_AUTH_TIMEOUT], values[ROW_AUTH_TIMEOUT]),
+        key_size: number_at(present, values, ROW_KEY_SIZE),
+        active: number_at(present, values, ROW_ACTIVE),
+        origination: number_at(present, values, ROW_ORIGINATION),
+        usage: number_at(present, values, ROW_USAGE),
+        auth_type: number_at(present, values, ROW_AUTH_TYPE),
+        auth_timeout: number_at(present, values, ROW_AUTH_TIMEOUT),
         unlocked: present[ROW_UNLOCKED],
         presence: present[ROW_PRESENCE],
         confirmation: present[ROW_CONFIRMATION],
         early_boot: present[ROW_EARLY_BOOT],
-        use_limit: number_tag(present[ROW_USE_LIMIT], values[ROW_USE_LIMIT]),
+        use_limit: number_at(present, values, ROW_USE_LIMIT),
         no_auth: present[ROW_NO_AUTH],
     }
 }
