@@ -1,7 +1,7 @@
 -- Each answer of the enrolment ruling is the defined one: one law for each test that fails after those before it have
 -- passed. Assumes nothing.
 use mathlib.Core.Path.{_≡_, refl, sym, ap, _∙_}
-use mathlib.Core.Bool.{Bool, true, false, not, _&&_}
+use mathlib.Core.Bool.{Bool, true, false, not, _&&_, _||_}
 use mathlib.Core.Option.{none, some}
 use mathlib.Core.List.{List, [], _∷_}
 use Prim.Native.Nat.{ℕ, zero, suc, _+_, _<_, _≤_}
@@ -22,7 +22,7 @@ use Rattle.records.specs.Parts.{partsInside}
 use Rattle.records.specs.declared.FieldList.{FieldList}
 use Rattle.records.specs.declared.Record.{Record}
 use Rattle.records.proofs.Fields.{row-value}
-use Rattle.enrolment.specs.Enrolled.{sameOctets, challengeMet, aboveSoftware, rootIs, numberIs, hasRoot, bootLocked, bootVerified, generated, judged, enrolled}
+use Rattle.enrolment.specs.Enrolled.{sameOctets, challengeMet, eitherSoftware, rootIs, numberIs, hasRoot, bootLocked, bootVerified, generated, judged, enrolled}
 
 -- ---- the challenge
 
@@ -141,7 +141,7 @@ module _ (l : FieldList) (s : List ℕ) where
     from-52 = guard (presentAt l 26) 52 0 from-53
 
     abbrev from-51 : Answer (Unit {0})
-    from-51 = guard (aboveSoftware level keymintLevel) 51 0 from-52
+    from-51 = guard (not (eitherSoftware level keymintLevel)) 51 0 from-52
 
     abbrev answer : Answer (Unit {0})
     answer = judged level keymintLevel (fieldsOf l s) met
@@ -157,46 +157,41 @@ module _ (l : FieldList) (s : List ℕ) where
       past-50 : {x : Answer (Unit {0})} → x ≡ from-51 → x ≡ answer
       past-50 e = passes met 50 0 from-51 a e ∙ by-rows
 
-      pub level-software : level ≡ 0 → refused 51 0 ≡ answer
-      unfolding aboveSoftware
-      level-software e = past-50 (stops (aboveSoftware level keymintLevel) 51 0 from-52 (rw (eq-eqb level 0 e) refl))
+      pub software-level : (eqb level 0 || eqb keymintLevel 0) ≡ true → refused 51 0 ≡ answer
+      unfolding eitherSoftware
+      software-level e = past-50 (stops (not (eitherSoftware level keymintLevel)) 51 0 from-52 (rw e refl))
 
-      module _ (b : level ≡ 0 → ⊥) where
-        pub keymint-software : keymintLevel ≡ 0 → refused 51 0 ≡ answer
-        unfolding aboveSoftware
-        keymint-software e = past-50 (stops (aboveSoftware level keymintLevel) 51 0 from-52 (rw (ne-eqb level 0 b, eq-eqb keymintLevel 0 e) refl))
+      module _ (d : (eqb level 0 || eqb keymintLevel 0) ≡ false) where
+        past-51 : {x : Answer (Unit {0})} → x ≡ from-52 → x ≡ answer
+        unfolding eitherSoftware
+        past-51 e = past-50 (passes (not (eitherSoftware level keymintLevel)) 51 0 from-52 (rw d refl) e)
 
-        module _ (d : keymintLevel ≡ 0 → ⊥) where
-          past-51 : {x : Answer (Unit {0})} → x ≡ from-52 → x ≡ answer
-          unfolding aboveSoftware
-          past-51 e = past-50 (passes (aboveSoftware level keymintLevel) 51 0 from-52 (rw (ne-eqb level 0 b, ne-eqb keymintLevel 0 d) refl) e)
+        pub no-root : not (presentAt l 26) ≡ true → refused 52 0 ≡ answer
+        no-root e = past-51 (stops (presentAt l 26) 52 0 from-53 e)
 
-          pub no-root : not (presentAt l 26) ≡ true → refused 52 0 ≡ answer
-          no-root e = past-51 (stops (presentAt l 26) 52 0 from-53 e)
+        module _ (e : not (presentAt l 26) ≡ false) where
+          past-52 : {x : Answer (Unit {0})} → x ≡ from-53 → x ≡ answer
+          past-52 f = past-51 (passes (presentAt l 26) 52 0 from-53 e f)
 
-          module _ (e : not (presentAt l 26) ≡ false) where
-            past-52 : {x : Answer (Unit {0})} → x ≡ from-53 → x ≡ answer
-            past-52 f = past-51 (passes (presentAt l 26) 52 0 from-53 e f)
+          pub unlocked : not (l .root .locked) ≡ true → refused 53 0 ≡ answer
+          unlocked f = past-52 (stops (l .root .locked) 53 0 from-54 f)
 
-            pub unlocked : not (l .root .locked) ≡ true → refused 53 0 ≡ answer
-            unlocked f = past-52 (stops (l .root .locked) 53 0 from-54 f)
+          module _ (f : not (l .root .locked) ≡ false) where
+            past-53 : {x : Answer (Unit {0})} → x ≡ from-54 → x ≡ answer
+            past-53 g = past-52 (passes (l .root .locked) 53 0 from-54 f g)
 
-            module _ (f : not (l .root .locked) ≡ false) where
-              past-53 : {x : Answer (Unit {0})} → x ≡ from-54 → x ≡ answer
-              past-53 g = past-52 (passes (l .root .locked) 53 0 from-54 f g)
+            pub not-verified : (l .root .state ≡ 0 → ⊥) → refused 54 0 ≡ answer
+            not-verified g = past-53 (stops (eqb (l .root .state) 0) 54 0 from-55 (rw (ne-eqb (l .root .state) 0 g) refl))
 
-              pub not-verified : (l .root .state ≡ 0 → ⊥) → refused 54 0 ≡ answer
-              not-verified g = past-53 (stops (eqb (l .root .state) 0) 54 0 from-55 (rw (ne-eqb (l .root .state) 0 g) refl))
+            module _ (g : l .root .state ≡ 0) (m : Bool) (q : (s : List ℕ) → m ≡ generated (fieldsOf l s)) where
+              past-54 : {x : Answer (Unit {0})} → x ≡ from-55 → x ≡ answer
+              past-54 h = past-53 (passes (eqb (l .root .state) 0) 54 0 from-55 (rw (eq-eqb (l .root .state) 0 g) refl) h)
 
-              module _ (g : l .root .state ≡ 0) (m : Bool) (q : (s : List ℕ) → m ≡ generated (fieldsOf l s)) where
-                past-54 : {x : Answer (Unit {0})} → x ≡ from-55 → x ≡ answer
-                past-54 h = past-53 (passes (eqb (l .root .state) 0) 54 0 from-55 (rw (eq-eqb (l .root .state) 0 g) refl) h)
+              pub other-origin : not m ≡ true → refused 55 0 ≡ answer
+              other-origin h = past-54 (stops (generated (fieldsOf l s)) 55 0 (got tt) (rw (q s) at h))
 
-                pub other-origin : not m ≡ true → refused 55 0 ≡ answer
-                other-origin h = past-54 (stops (generated (fieldsOf l s)) 55 0 (got tt) (rw (q s) at h))
-
-                pub taken-on : not m ≡ false → got tt ≡ answer
-                taken-on h = past-54 (passes (generated (fieldsOf l s)) 55 0 (got tt) (rw (q s) at h) refl)
+              pub taken-on : not m ≡ false → got tt ≡ answer
+              taken-on h = past-54 (passes (generated (fieldsOf l s)) 55 0 (got tt) (rw (q s) at h) refl)
 
 -- ---- the whole
 

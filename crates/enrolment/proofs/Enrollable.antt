@@ -1,7 +1,7 @@
 -- The theorems of specs/Statements.antt, guard by guard. Assumes nothing.
 use mathlib.Core.Path.{_≡_, refl, sym, ap, ap₂, subst, _∙_}
 use mathlib.Core.Logic.{_⊎_, inl, inr}
-use mathlib.Core.Bool.{Bool, true, false, not, _&&_}
+use mathlib.Core.Bool.{Bool, true, false, not, _&&_, _||_}
 use mathlib.Core.Option.{Option, none, some}
 use mathlib.Core.List.{List, [], _∷_}
 use Prim.Native.Nat.{ℕ, _≤_}
@@ -18,7 +18,7 @@ use Rattle.records.specs.Fields.{fieldValue}
 use Rattle.records.specs.Shape.{wellShapedRecord}
 use Rattle.records.specs.Parts.{partsInside}
 use Rattle.records.specs.declared.Record.{Record}
-use Rattle.enrolment.specs.Enrolled.{sameOctets, challengeMet, aboveSoftware, rootIs, numberIs, hasRoot, bootLocked, bootVerified, generated, judged, enrolled}
+use Rattle.enrolment.specs.Enrolled.{sameOctets, challengeMet, eitherSoftware, rootIs, numberIs, hasRoot, bootLocked, bootVerified, generated, judged, enrolled}
 use Rattle.enrolment.specs.Statements.{Enrollable, EnrolledExactly, RefusalNumbers, HardwareAlone}
 
 -- ---- what the tests say
@@ -34,6 +34,14 @@ same-itself : (xs : List ℕ) → T (sameOctets xs xs)
 unfolding sameOctets
 same-itself [] = tt
 same-itself (x ∷ xs) = and-both (eqb x x) (sameOctets xs xs) (eqb-refl x) (same-itself xs)
+
+neither : (a b : Bool) → T (not (a || b)) → T (not a) × T (not b)
+neither true b t = absurd t
+neither false b t = (tt, t)
+
+not-either : (a b : Bool) → T (not a) → T (not b) → T (not (a || b))
+not-either true b s t = absurd s
+not-either false b s t = t
 
 root-found : (f : Root → Bool) (o : Option Value) → T (rootIs f o) → (r : Root) × (o ≡ some (trust r)) × T (f r)
 unfolding rootIs
@@ -63,7 +71,7 @@ module _ (r : Record) (s expected : List ℕ) where
   challenge = partOf s (r .challenge)
 
   to-enrollable : enrolled r s expected ≡ got tt → Enrollable r s expected
-  unfolding enrolled judged challengeMet aboveSoftware hasRoot bootLocked bootVerified generated rootIs
+  unfolding enrolled judged challengeMet eitherSoftware hasRoot bootLocked bootVerified generated rootIs
   to-enrollable e =
       guard-case _ _ _ _ e λ shaped e₁.
       guard-case _ _ _ _ e₁ λ inside e₂.
@@ -73,6 +81,7 @@ module _ (r : Record) (s expected : List ℕ) where
       guard-case _ _ _ _ e₅ λ locked e₆.
       guard-case _ _ _ _ e₆ λ verified e₇.
       guard-case _ _ _ _ e₇ λ origin e₈.
+      let levels = neither (eqb (r .attestation .level) 0) (eqb (r .keymint .level) 0) above in
       let rest = and-right (leb 1 (length expected)) (leb (length expected) 128 && sameOctets expected challenge) met in
       let found = root-found (λ x. x .locked) (fieldValue fields 704) locked in
       let number = number-found (λ n. eqb n 0) (fieldValue fields 702) origin in
@@ -82,8 +91,8 @@ module _ (r : Record) (s expected : List ℕ) where
         given = leb→le 1 (length expected) (and-left (leb 1 (length expected)) (leb (length expected) 128 && sameOctets expected challenge) met);
         few = leb→le (length expected) 128 (and-left (leb (length expected) 128) (sameOctets expected challenge) rest);
         challenge = same-is expected challenge (and-right (leb (length expected) 128) (sameOctets expected challenge) rest);
-        level = not-equal (r .attestation .level) 0 (and-left (not (eqb (r .attestation .level) 0)) (not (eqb (r .keymint .level) 0)) above);
-        keymintLevel = not-equal (r .keymint .level) 0 (and-right (not (eqb (r .attestation .level) 0)) (not (eqb (r .keymint .level) 0)) above);
+        level = not-equal (r .attestation .level) 0 (levels .0);
+        keymintLevel = not-equal (r .keymint .level) 0 (levels .1);
         root = found .0;
         rooted = found .1;
         locked = is-true (found .0 .locked) (found .2);
@@ -92,13 +101,13 @@ module _ (r : Record) (s expected : List ℕ) where
       }
 
   from-enrollable : Enrollable r s expected → enrolled r s expected ≡ got tt
-  unfolding enrolled judged challengeMet aboveSoftware hasRoot bootLocked bootVerified generated rootIs numberIs
+  unfolding enrolled judged challengeMet eitherSoftware hasRoot bootLocked bootVerified generated rootIs numberIs
   from-enrollable w =
       let met : T (challengeMet expected challenge) =
       and-both (leb 1 (length expected)) (leb (length expected) 128 && sameOctets expected challenge) (le→leb 1 (length expected) (w .given))
       (and-both (leb (length expected) 128) (sameOctets expected challenge) (le→leb (length expected) 128 (w .few)) (rw (← w .challenge) (same-itself expected))) in
-      let above : T (aboveSoftware (r .attestation .level) (r .keymint .level)) =
-      and-both (not (eqb (r .attestation .level) 0)) (not (eqb (r .keymint .level) 0)) (not-T (eqb (r .attestation .level) 0) (λ t. w .level (eqb→eq (r .attestation .level) 0 t)))
+      let above : T (not (eitherSoftware (r .attestation .level) (r .keymint .level))) =
+      not-either (eqb (r .attestation .level) 0) (eqb (r .keymint .level) 0) (not-T (eqb (r .attestation .level) 0) (λ t. w .level (eqb→eq (r .attestation .level) 0 t)))
       (not-T (eqb (r .keymint .level) 0) (λ t. w .keymintLevel (eqb→eq (r .keymint .level) 0 t))) in
       guard-yes (wellShapedRecord r) 20 0 _ (w .shaped) ∙ guard-yes (partsInside r (length s)) 20 0 _ (w .inside)
       ∙ guard-yes _ 50 0 _ met ∙ guard-yes _ 51 0 _ above

@@ -1,6 +1,6 @@
 -- Document 01, "The enrolment ruling": "Yes, or the first that holds of: 20 as for the writer; 50 ..; 51 ..; 52 ..; 53 ..;
 -- 54 ..; 55 ..". Each test says that its refusal does not hold.
-use mathlib.Core.Bool.{Bool, true, false, not, _&&_}
+use mathlib.Core.Bool.{Bool, true, false, not, _&&_, _||_}
 use mathlib.Core.Option.{Option, none, some}
 use mathlib.Core.List.{List, [], _∷_}
 use Prim.Native.Nat.{ℕ}
@@ -28,8 +28,8 @@ unfoldable pub challengeMet : List ℕ → List ℕ → Bool
 challengeMet expected challenge = leb 1 (length expected) && (leb (length expected) 128 && sameOctets expected challenge)
 
 -- 51: "either level Software"
-unfoldable pub aboveSoftware : ℕ → ℕ → Bool
-aboveSoftware level keymintLevel = not (eqb level 0) && not (eqb keymintLevel 0)
+unfoldable pub eitherSoftware : ℕ → ℕ → Bool
+eitherSoftware level keymintLevel = eqb level 0 || eqb keymintLevel 0
 
 -- ---- 52 to 55: what the hardware list says under 704 and 702
 
@@ -73,7 +73,7 @@ generated fs = numberIs (λ n. eqb n 0) (fieldValue fs 702)
 unfoldable pub judged : ℕ → ℕ → List Field → Bool → Answer (Unit {0})
 judged level keymintLevel hardware met =
     guard met challengeDiffers 0
-    (guard (aboveSoftware level keymintLevel) softwareLevel 0
+    (guard (not (eitherSoftware level keymintLevel)) softwareLevel 0
     (guard (hasRoot hardware) noRootOfTrust 0
     (guard (bootLocked hardware) bootUnlocked 0
     (guard (bootVerified hardware) bootNotVerified 0

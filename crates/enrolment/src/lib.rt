@@ -77,10 +77,7 @@ fn judge(level: u32, keymint_level: u32, hardware: FieldList, met: bool) -> Enro
     if !met {
         return Enrolment::Refused(CHALLENGE_DIFFERS, 0);
     }
-    if level == 0 {
-        return Enrolment::Refused(SOFTWARE_LEVEL, 0);
-    }
-    if keymint_level == 0 {
+    if (level == 0) | (keymint_level == 0) {
         return Enrolment::Refused(SOFTWARE_LEVEL, 0);
     }
     if !hardware.present[ROW_ROOT_OF_TRUST] {
