@@ -93,9 +93,11 @@ fn token_refusal(s: Rules, h: Rules, q: Request) -> u8
     ensures { λ n. ⌜ n ≡ firstRefusing (tokenChecks (ofRules s) (ofRules h) q) ⌝ }
 {
     let token = q.token;
+    let sn = s.no_auth;
+    let hn = h.no_auth;
     let sa = s.auth_type;
     let ha = h.auth_type;
-    if checks::auth_missing(s.no_auth, h.no_auth, sa, ha) {
+    if checks::auth_missing(sn, hn, sa, ha) {
         return NO_AUTH_RULE;
     }
     if checks::token_refused(token.there, token.kinds, sa, ha) {
