@@ -1,12 +1,12 @@
 -- What a permit means, and what a refusal's number says. Assumes nothing.
-use mathlib.Core.Path.{_≡_, refl, sym, ap, subst, _∙_}
+use mathlib.Core.Path.{_≡_, refl, sym, subst, _∙_}
 use mathlib.Core.Logic.{inl, inr, ⊎-elim}
 use mathlib.Core.Bool.{Bool, true, false}
-use Prim.Native.Nat.{ℕ, _≤_}
+use Prim.Native.Nat.{ℕ}
 use native.Mathlib.Omega.{arith}
 use lib.Dec.{eqb}
 use borrow.Author.Tests.{eq-eqb, ne-eqb}
-use Rattle.answer.specs.Answer.{Answer, got, refused, guard, pick}
+use Rattle.answer.specs.Answer.{got, refused, guard, pick}
 use Rattle.answer.proofs.Answer.{refused-got, got-inj, pick-case}
 use Rattle.answer.proofs.Logic.{not-equal}
 use Rattle.records.specs.Shape.{wellShapedRecord}

@@ -4,20 +4,23 @@ use mathlib.Core.Path.{_≡_, refl, sym, ap, _∙_}
 use mathlib.Core.Bool.{Bool, true, false}
 use mathlib.Core.Option.{Option, none, some}
 use mathlib.Core.List.{List, []}
-use Prim.Native.Nat.{ℕ}
+use Prim.Native.Nat.{ℕ, _<_}
 use lib.Dec.{lit<}
 use lib.ListN.{getD}
 use Rattle.answer.specs.Answer.{pick}
-use Rattle.schema.specs.Table.{rows}
-use Rattle.schema.specs.Content.{Value, num, nul, nums, Field}
+use Rattle.schema.specs.Table.{rows, rowAt}
+use Rattle.schema.specs.Content.{Value, num, nums}
 use Rattle.records.specs.Content.{membersOf, valueAt, fieldsOf}
-use Rattle.records.specs.Equal.{presentAt}
+use Rattle.records.specs.Equal.{presentAt, contentAt}
 use Rattle.records.specs.Fields.{fieldValue}
 use Rattle.records.specs.declared.FieldList.{FieldList}
 use Rattle.records.specs.declared.NumberSet.{NumberSet}
 use Rattle.records.proofs.Fields.{row-value}
 use Rattle.ruling.specs.Rules.{numberIn, setIn, there, saidFields, Rules, rulesOf}
+use Rattle.ruling.specs.Ruling.{heldTags}
 use Rattle.ruling.specs.Code.{given}
+use Rattle.ruling.specs.Statements.{TagsNumbered}
+use Rattle.ruling.proofs.Tags.{there-given}
 
 -- ---- one field, there or not
 
@@ -72,8 +75,8 @@ module _ (l : FieldList) where
     set-row : (n k : ℕ) (g : NumberSet) → fieldValue (fieldsOf l s) n ≡ pick (presentAt l k) (some (nums (membersOf g))) none → setIn (fieldValue (fieldsOf l s) n) ≡ setAt k g
     set-row n k g e = ap setIn e ∙ set-in (presentAt l k) (membersOf g)
 
-    null-row : (n k : ℕ) → fieldValue (fieldsOf l s) n ≡ pick (presentAt l k) (some nul) none → there (fieldValue (fieldsOf l s) n) ≡ presentAt l k
-    null-row n k e = ap there e ∙ there-in (presentAt l k) nul
+    held-row : (n k : ℕ) → k < 42 → rowAt k .number ≡ n → there (fieldValue (fieldsOf l s) n) ≡ presentAt l k
+    held-row n k h e = rw (← e) (ap there (row-value l s k h) ∙ there-in (presentAt l k) (contentAt l s k))
 
     pub by-rows : rulesByRows ≡ rulesOf (fieldsOf l s)
     unfolding rulesOf valueAt rows pick
@@ -89,12 +92,12 @@ module _ (l : FieldList) where
           number-row 402 12 (row-value l s 12 (lit< tt)),
           number-row 504 15 (row-value l s 15 (lit< tt)),
           number-row 505 16 (row-value l s 16 (lit< tt)),
-          null-row 509 20 (row-value l s 20 (lit< tt)),
-          null-row 507 18 (row-value l s 18 (lit< tt)),
-          null-row 508 19 (row-value l s 19 (lit< tt)),
-          null-row 305 9 (row-value l s 9 (lit< tt)),
+          held-row 509 20 (lit< tt) refl,
+          held-row 507 18 (lit< tt) refl,
+          held-row 508 19 (lit< tt) refl,
+          held-row 305 9 (lit< tt) refl,
           number-row 405 13 (row-value l s 13 (lit< tt)),
-          null-row 503 14 (row-value l s 14 (lit< tt)),
+          held-row 503 14 (lit< tt) refl,
         )
 
   -- the tags that the code finds, each by its row
@@ -120,3 +123,28 @@ module _ (l : FieldList) where
         noAuth = presentAt l 14;
       }) (rulesOf (saidFields l))
   tags-by-rows e₀ e₁ e₂ e₃ e₄ e₅ e₆ e₇ e₈ e₉ e₁₀ = cc (by-rows [])
+
+-- the fields that a list holds under the numbers of a mark's bits, by their rows
+pub tags-numbered : TagsNumbered
+unfolding heldTags rows
+tags-numbered l =
+    ap heldTags (sym (by-rows l []))
+    ∙ simp (
+      there-given,
+      held-row l [] 1 0 (lit< tt) refl,
+      held-row l [] 2 1 (lit< tt) refl,
+      held-row l [] 6 4 (lit< tt) refl,
+      held-row l [] 5 3 (lit< tt) refl,
+      held-row l [] 3 2 (lit< tt) refl,
+      held-row l [] 400 10 (lit< tt) refl,
+      held-row l [] 401 11 (lit< tt) refl,
+      held-row l [] 402 12 (lit< tt) refl,
+      held-row l [] 504 15 (lit< tt) refl,
+      held-row l [] 505 16 (lit< tt) refl,
+      held-row l [] 509 20 (lit< tt) refl,
+      held-row l [] 507 18 (lit< tt) refl,
+      held-row l [] 508 19 (lit< tt) refl,
+      held-row l [] 305 9 (lit< tt) refl,
+      held-row l [] 405 13 (lit< tt) refl,
+      held-row l [] 503 14 (lit< tt) refl,
+    )

@@ -1,5 +1,5 @@
 -- What is proved of the use ruling (document 01, "The use ruling"). Each statement stands under the sentence that it
--- renders, and the theorem of the same name in proofs/Permitted.antt, proofs/Marked.antt or proofs/NothingElse.antt. Read
+-- renders; the theorem of the same name stands in proofs/Permitted.antt, Marked.antt, TagRows.antt or NothingElse.antt. Read
 -- Allowed.antt first, then `PermittedExactly`, `RefusedExactly`, `HardwareExactly` and `SoftwareExactly`.
 use mathlib.Core.Path.{_≡_}
 use mathlib.Core.Logic.{_⊎_, _↔_}
@@ -11,12 +11,13 @@ use lib.Dec.{T}
 use lib.ListN.{getD}
 use Rattle.answer.specs.Answer.{got, refused}
 use Rattle.answer.specs.Refusal.{illShaped}
+use Rattle.schema.specs.Content.{Field}
 use Rattle.records.specs.Content.{fieldsOf}
 use Rattle.records.specs.Equal.{Equal}
 use Rattle.records.specs.Shape.{wellShapedRecord}
 use Rattle.records.specs.declared.FieldList.{FieldList}
 use Rattle.records.specs.declared.Record.{Record}
-use Rattle.ruling.specs.Rules.{Rules, saidFields, rulesOf}
+use Rattle.ruling.specs.Rules.{saidFields, holdsNumber, Rules, rulesOf}
 use Rattle.ruling.specs.Ruling.{Check, checks, heldTags, lookedAt, Permit, ruled, ruling}
 use Rattle.ruling.specs.Allowed.{Allowed}
 use Rattle.ruling.specs.declared.request.Request.{Request}
@@ -110,6 +111,20 @@ LookedAt s h q k = getD (lookedAt s h q) k false ≡ true
 
 abbrev pub Software : ℕ → ℕ → Type 0
 Software level keymintLevel = (level ≡ 0) ⊎ (keymintLevel ≡ 0)
+
+-- "Bits from 0: purpose, algorithm, padding, digest, keySize, 400, 401, 402, 504, 505, 509, 507, 508, 305, 405, 503": the
+-- numbers of their fields
+abbrev pub bitNumbers : List ℕ
+bitNumbers = 1 ∷ 2 ∷ 6 ∷ 5 ∷ 3 ∷ 400 ∷ 401 ∷ 402 ∷ 504 ∷ 505 ∷ 509 ∷ 507 ∷ 508 ∷ 305 ∷ 405 ∷ 503 ∷ []
+
+-- which of them a list of fields holds
+abbrev pub holding : List Field → List ℕ → List Bool
+holding fs [] = []
+holding fs (n ∷ ns) = holdsNumber fs n ∷ holding fs ns
+
+-- "that list holds the tag": the tags that a list holds are the fields that it holds under those numbers
+abbrev pub TagsNumbered : Type 0
+TagsNumbered = (l : FieldList) → heldTags (rulesOf (saidFields l)) ≡ holding (saidFields l) bitNumbers
 
 -- what holds of each permit that is given, and of each bit of its marks
 abbrev pub EachPermit : (ℕ → ℕ → Rules → Rules → Request → Permit → Type 0) → Type 0
