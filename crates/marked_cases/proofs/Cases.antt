@@ -2,7 +2,6 @@
 -- a ruling at one record that the extension is read as. Assumes nothing.
 use mathlib.Core.Path.{_≡_, refl, _∙_}
 use mathlib.Core.List.{[], _∷_}
-use Prim.Native.Nat.{ℕ}
 use Rattle.answer.specs.Answer.{Answer, got, refused, guard, bind, pick}
 use Rattle.codec.specs.Octets.{octet}
 use Rattle.codec.specs.Integer.{integerOf}
@@ -75,21 +74,22 @@ no-sequence-9 : read (0x05 ∷ 0x00 ∷ []) ≡ refused 9 0
 unfolding read decode tagged element exactly firstPass walkElement holds nodes readHeader reported readIdentifier readLength octet guard bind pick
 no-sequence-9 = refl
 
+-- ---- the list
+
+also : {A B : Type 0} → A → B → A × B
+also a b = (a, b)
+
 pub marked-cases : Every cases
 unfolding cases Every Holds
-marked-cases = (
-  extension-listed,
-  (
-    on-the-date-permitted,
-    (
-      before-the-date-37,
-      (
-        clock-of-0-36,
-        (
-          other-digest-34,
-          (key-of-1033, (key-of-1032, (empty-2, (indefinite-4, (spare-byte-7, (no-sequence-9, tt)))))),
-        ),
-      ),
-    ),
-  ),
-)
+marked-cases =
+    also extension-listed
+    (also on-the-date-permitted
+    (also before-the-date-37
+    (also clock-of-0-36
+    (also other-digest-34
+    (also key-of-1033
+    (also key-of-1032
+    (also empty-2
+    (also indefinite-4
+    (also spare-byte-7
+    (also no-sequence-9 tt))))))))))

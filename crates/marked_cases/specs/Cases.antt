@@ -3,7 +3,6 @@ use mathlib.Core.Path.{_≡_}
 use mathlib.Core.Option.{Option, none, some}
 use mathlib.Core.List.{List, [], _∷_}
 use Prim.Native.Nat.{ℕ}
-use lib.ListN.{length}
 use Rattle.answer.specs.Answer.{Answer, got, refused}
 use Rattle.answer.specs.Refusal.{keyTooSmall}
 use Rattle.schema.specs.Decode.{read}
