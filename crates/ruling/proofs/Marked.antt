@@ -87,13 +87,14 @@ module _ (level keymintLevel hardware software k : ℕ) (u v : Bool) (e : bitAt 
       go true = joined-bit k hardware software u v e f
       go false = f
 
-counted : (level keymintLevel hardware software : ℕ)
-    → (permitOf level keymintLevel hardware software .hardwareBits ≡ ones (permitOf level keymintLevel hardware software .hardware))
-    × (permitOf level keymintLevel hardware software .softwareBits ≡ ones (permitOf level keymintLevel hardware software .software))
+abbrev Counted : Permit → Type 0
+Counted w = (w .hardwareBits ≡ ones (w .hardware)) × (w .softwareBits ≡ ones (w .software))
+
+counted : (level keymintLevel hardware software : ℕ) → Counted (permitOf level keymintLevel hardware software)
 unfolding permitOf permit pick
 counted level keymintLevel hardware software = go (eqb level 0 || eqb keymintLevel 0)
   where
-    go : (b : Bool) → (pick b (permit 0 (bitOr hardware software)) (permit hardware software) .hardwareBits ≡ ones (pick b (permit 0 (bitOr hardware software)) (permit hardware software) .hardware)) × (pick b (permit 0 (bitOr hardware software)) (permit hardware software) .softwareBits ≡ ones (pick b (permit 0 (bitOr hardware software)) (permit hardware software) .software))
+    go : (b : Bool) → Counted (pick b (permit 0 (bitOr hardware software)) (permit hardware software))
     go true = (refl, refl)
     go false = (refl, refl)
 

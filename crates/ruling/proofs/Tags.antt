@@ -50,13 +50,15 @@ module _ (n count i : ℕ) (members : List ℕ) (h : length members ≡ 16) wher
       let l : i < length (take count members) = rw slots (omega arith) in
       rw (drop-cons (take count members) i 0 l, getD-take count members i 0 p, add-one i) refl
 
-  pub counted-out : Ahead → count ≤ i → false ≡ member n (take count members)
+  none-ahead : Ahead → min count 16 ≤ i → false ≡ member n (take count members)
   unfolding member
-  counted-out e p = let l : length (take count members) ≤ i = rw slots (omega arith) in rw (e, drop-of-length-le (take count members) l) refl
+  none-ahead e p = let l : length (take count members) ≤ i = rw slots p in rw (e, drop-of-length-le (take count members) l) refl
+
+  pub counted-out : Ahead → count ≤ i → false ≡ member n (take count members)
+  counted-out e p = none-ahead e (omega arith)
 
   pub slots-out : Ahead → 16 ≤ i → false ≡ member n (take count members)
-  unfolding member
-  slots-out e p = let l : length (take count members) ≤ i = rw slots (omega arith) in rw (e, drop-of-length-le (take count members) l) refl
+  slots-out e p = none-ahead e (omega arith)
 
   pub member-found : Ahead → i < count → i < 16 → getD members i 0 ≡ n → true ≡ member n (take count members)
   member-found e p q f = rw (e, next p q, eq-eqb (getD members i 0) n f) refl
