@@ -15,7 +15,7 @@ use Rattle.ruling.specs.Rules.{there, allows, member}
 use Rattle.ruling.specs.Checks.{knownPurpose, purposeRefused, agreed, algorithmFits, paddingFits, paddingRefused, looksAtDigest, digestFits, digestRefused, digestBytes, keySizeRefused, signs, clockRefused, activeRefused, expiryRefused, authMissing, tokenRefused, freshRefused, usesRefused}
 use Rattle.ruling.specs.Ruling.{firstRefusing, shapeChecks, dateChecks, tokenChecks, deviceChecks, heldTags, looked, bit, markOf, permit, permitOf, unless, ruled, Permit}
 use Rattle.listing.specs.Text.{digits, decimal, hexDigit, hexPair, hexText, octetsText, moreNumbers, numbersText, valueText, named, numbersLine, octetsLine, fieldLine, fieldLines, countLine, headText, contentText, listing}
-use Rattle.marked_cases.specs.Cases.{Use, Ruled, Sized, Holds, Every, extension, text, sign, permitted, cases}
+use Rattle.marked_cases.specs.Cases.{Use, Ruled, Sized, Holds, Every, extension, text, sign, permitted, cases, MarkedCases}
 use Rattle.marked_cases.proofs.Ruled.{asking, ruled-by}
 use Rattle.marked_cases.proofs.Sample.{said, said-read, softwareSaid, hardwareSaid, said-ruled, hardware-parts, hardware-bits, software-bits}
 
@@ -79,7 +79,7 @@ no-sequence-9 = refl
 also : {A B : Type 0} → A → B → A × B
 also a b = (a, b)
 
-pub marked-cases : Every cases
+pub marked-cases : MarkedCases
 unfolding cases Every Holds
 marked-cases =
     also extension-listed
