@@ -108,7 +108,5 @@ pub fn enrol(r: Record, s: &[u8], expected: &[u8]) -> Enrolment
         return Enrolment::Refused(ILL_SHAPED, 0);
     }
     let met = challenge_met(expected, part_octets(s, r.challenge));
-    let attestation = r.attestation;
-    let keymint = r.keymint;
-    judge(attestation.level, keymint.level, r.hardware, met)
+    judge(r.attestation.level, r.keymint.level, r.hardware, met)
 }

@@ -28,15 +28,12 @@ pub enum Ruling {
 fn looked_at(s: Rules, h: Rules, q: Request) -> [bool; 16]
     ensures { λ l. ⌜ l ≡ lookedAt (ofRules s) (ofRules h) q ⌝ }
 {
-    let sa = s.algorithm;
-    let ha = h.algorithm;
-    let st = s.auth_type;
-    let ht = h.auth_type;
+    let algorithm = checks::agreed(s.algorithm, h.algorithm);
     marks::looked(
         q.purpose,
-        checks::agreed(sa, ha),
+        algorithm,
         q.padding,
-        st.there | ht.there,
+        s.auth_type.there | h.auth_type.there,
     )
 }
 
@@ -61,15 +58,7 @@ pub fn rule(r: Record, q: Request) -> Ruling
     if !records::shape::well_shaped(r) {
         return Ruling::Refused(ILL_SHAPED, 0);
     }
-    let attestation = r.attestation;
-    let keymint = r.keymint;
-    let software = r.software;
-    let hardware = r.hardware;
-    ruled(
-        attestation.level,
-        keymint.level,
-        rules::rules_of(software),
-        rules::rules_of(hardware),
-        q,
-    )
+    let software = rules::rules_of(r.software);
+    let hardware = rules::rules_of(r.hardware);
+    ruled(r.attestation.level, r.keymint.level, software, hardware, q)
 }

@@ -15,33 +15,22 @@ ghost use Rattle.ruling.specs.Code.{ofRules, ofRuling};
 pub(crate) fn held_tags(l: Rules) -> [bool; 16]
     ensures { λ r. ⌜ r ≡ heldTags (ofRules l) ⌝ }
 {
-    let purpose = l.purpose;
-    let algorithm = l.algorithm;
-    let padding = l.padding;
-    let digest = l.digest;
-    let key_size = l.key_size;
-    let active = l.active;
-    let origination = l.origination;
-    let usage = l.usage;
-    let auth_type = l.auth_type;
-    let auth_timeout = l.auth_timeout;
-    let use_limit = l.use_limit;
     [
-        purpose.there,
-        algorithm.there,
-        padding.there,
-        digest.there,
-        key_size.there,
-        active.there,
-        origination.there,
-        usage.there,
-        auth_type.there,
-        auth_timeout.there,
+        l.purpose.there,
+        l.algorithm.there,
+        l.padding.there,
+        l.digest.there,
+        l.key_size.there,
+        l.active.there,
+        l.origination.there,
+        l.usage.there,
+        l.auth_type.there,
+        l.auth_timeout.there,
         l.unlocked,
         l.presence,
         l.confirmation,
         l.early_boot,
-        use_limit.there,
+        l.use_limit.there,
         l.no_auth,
     ]
 }

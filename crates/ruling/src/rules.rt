@@ -99,14 +99,11 @@ pub(crate) fn rules_of(l: FieldList) -> Rules
 {
     let present = l.present;
     let values = l.values;
-    let purpose = l.purpose;
-    let padding = l.padding;
-    let digest = l.digest;
     Rules {
-        purpose: set_tag(present[ROW_PURPOSE], purpose),
+        purpose: set_tag(present[ROW_PURPOSE], l.purpose),
         algorithm: number_at(present, values, ROW_ALGORITHM),
-        padding: set_tag(present[ROW_PADDING], padding),
-        digest: set_tag(present[ROW_DIGEST], digest),
+        padding: set_tag(present[ROW_PADDING], l.padding),
+        digest: set_tag(present[ROW_DIGEST], l.digest),
         key_size: number_at(present, values, ROW_KEY_SIZE),
         active: number_at(present, values, ROW_ACTIVE),
         origination: number_at(present, values, ROW_ORIGINATION),

@@ -43,6 +43,9 @@ number-at-requires-6 c κs = search needs
 number-at-requires-7 : tie.Need-number-at-requires-7
 number-at-requires-7 c κs = search needs
 
+array-read-t32 : tie.Need-array-read-t32
+array-read-t32 c = search needs
+
 array-read-t35 : tie.Need-array-read-t35
 array-read-t35 c = search needs
 
@@ -52,20 +55,17 @@ array-read-t38 c = search needs
 array-read-t41 : tie.Need-array-read-t41
 array-read-t41 c = search needs
 
-array-read-t44 : tie.Need-array-read-t44
-array-read-t44 c = search needs
-
 number-at-requires-8 : tie.Need-number-at-requires-8
 number-at-requires-8 c κs = search needs
 
-array-read-t49 : tie.Need-array-read-t49
-array-read-t49 c = search needs
+array-read-t46 : tie.Need-array-read-t46
+array-read-t46 c = search needs
 
 returns : tie.Need-returns
 returns c =
     let d = c .before .before .before in
     let s = d .before .before .before .before in
-    let l = s .before .before .before .before .before .before .before .before .before .args .l in
+    let l = s .before .before .before .before .before .before .args .l in
     tags-by-rows l (s .before .before .before .set-tag .ensures) (s .before .before .number-at .ensures) (s .before .set-tag2 .ensures) (s .set-tag3 .ensures)
     (d .before .before .before .number-at2 .ensures) (d .before .before .number-at3 .ensures) (d .before .number-at4 .ensures) (d .number-at5 .ensures)
     (c .before .before .number-at6 .ensures) (c .before .number-at7 .ensures) (c .number-at8 .ensures)
@@ -87,10 +87,10 @@ rules-of-spec =
     number-at-requires-5
     number-at-requires-6
     number-at-requires-7
+    array-read-t32
     array-read-t35
     array-read-t38
     array-read-t41
-    array-read-t44
     number-at-requires-8
-    array-read-t49
+    array-read-t46
     returns)
