@@ -1,23 +1,27 @@
 -- Each answer of the enrolment ruling is the defined one: one law for each test that fails after those before it have
 -- passed. Assumes nothing.
-use mathlib.Core.Path.{_≡_, refl, sym, ap, _∙_}
-use mathlib.Core.Bool.{Bool, true, false, not, _&&_}
+use mathlib.Core.Path.{_≡_, refl, ap, _∙_}
+use mathlib.Core.Bool.{Bool, true, false, not, _&&_, _||_}
+use mathlib.Core.Option.{none, some}
 use mathlib.Core.List.{List, [], _∷_}
 use Prim.Native.Nat.{ℕ, zero, suc, _+_, _<_, _≤_}
 use native.Mathlib.Omega.{arith}
-use native.Mathlib.Numerals.{add-one}
-use lib.ListN.{length, getD, drop}
-use lib.Dec.{eqb, leb}
+use lib.ListN.{length, getD}
+use lib.Dec.{eqb, lit<}
 use borrow.Author.Tests.{eq-eqb, ne-eqb, le-leb, lt-leb, not-true, not-false}
-use Rattle.answer.specs.Answer.{Answer, got, refused, guard}
+use Rattle.answer.specs.Answer.{Answer, got, refused, guard, pick}
 use Rattle.answer.proofs.Logic.{by-le}
+use Rattle.schema.specs.Table.{rows}
+use Rattle.schema.specs.Content.{Root, num, trust}
 use Rattle.records.specs.Equal.{presentAt}
-use Rattle.records.specs.Content.{partOf}
+use Rattle.records.specs.Content.{partOf, rootOf, valueAt, fieldsOf}
+use Rattle.records.specs.Fields.{fieldValue}
 use Rattle.records.specs.Shape.{wellShapedRecord}
 use Rattle.records.specs.Parts.{partsInside}
 use Rattle.records.specs.declared.FieldList.{FieldList}
 use Rattle.records.specs.declared.Record.{Record}
-use Rattle.enrolment.specs.Enrolled.{sameOctets, challengeMet, aboveSoftware, hasRoot, generated, judged, enrolled}
+use Rattle.records.proofs.Fields.{row-value}
+use Rattle.enrolment.specs.Enrolled.{sameOctets, challengeMet, eitherSoftware, rootIs, numberIs, hasRoot, bootLocked, bootVerified, generated, judged, enrolled}
 
 -- ---- the challenge
 
@@ -34,17 +38,17 @@ module _ (expected challenge : List ℕ) where
   unfolding challengeMet
   challenge-same l h b e = rw (le-leb 1 (length expected) l, le-leb (length expected) 128 h) e
 
+and-none : (a b : Bool) → false ≡ b → false ≡ a && b
+and-none true b e = e
+and-none false b e = refl
+
 -- octets that differ in length
 pub same-short : (xs ys : List ℕ) → (length xs ≡ length ys → ⊥) → false ≡ sameOctets xs ys
 unfolding sameOctets
 same-short [] [] n = absurd (n refl)
 same-short [] (y ∷ ys) n = refl
 same-short (x ∷ xs) [] n = refl
-same-short (x ∷ xs) (y ∷ ys) n = go (eqb x y) (same-short xs ys (λ e. n (ap suc e)))
-  where
-    go : (b : Bool) → false ≡ sameOctets xs ys → false ≡ b && sameOctets xs ys
-    go true e = e
-    go false e = refl
+same-short (x ∷ xs) (y ∷ ys) n = and-none (eqb x y) (sameOctets xs ys) (same-short xs ys (λ e. n (ap suc e)))
 
 -- octets that differ at i
 pub same-differs : (xs ys : List ℕ) (i : ℕ) → i < length xs → length xs ≡ length ys → (getD xs i 0 ≡ getD ys i 0 → ⊥) → false ≡ sameOctets xs ys
@@ -52,11 +56,7 @@ unfolding sameOctets
 same-differs [] ys i h l n = absurd (omega arith)
 same-differs (x ∷ xs) [] i h l n = absurd (omega (arith, l))
 same-differs (x ∷ xs) (y ∷ ys) zero h l n = rw (ne-eqb x y n) refl
-same-differs (x ∷ xs) (y ∷ ys) (suc i) h l n = go (eqb x y) (same-differs xs ys i (omega arith) (omega (arith, l)) n)
-  where
-    go : (b : Bool) → false ≡ sameOctets xs ys → false ≡ b && sameOctets xs ys
-    go true e = e
-    go false e = refl
+same-differs (x ∷ xs) (y ∷ ys) (suc i) h l n = and-none (eqb x y) (sameOctets xs ys) (same-differs xs ys i (omega arith) (omega (arith, l)) n)
 
 -- the first n are the same
 pub record SameUpTo (xs ys : List ℕ) (n : ℕ) : Type 0 where
@@ -79,58 +79,118 @@ same-all (x ∷ xs) [] n l h s = absurd (omega (arith, l))
 same-all (x ∷ xs) (y ∷ ys) zero l h s = absurd (omega arith)
 same-all (x ∷ xs) (y ∷ ys) (suc n) l h s = rw (eq-eqb x y (s .at 0 (omega arith))) (same-all xs ys n (omega (arith, l)) (omega arith) (record { at = λ i g. s .at (suc i) (omega arith) }))
 
+-- ---- what the hardware list says, by its rows
+
+root-at : (f : Root → Bool) (b : Bool) (r : Root) → rootIs f (pick b (some (trust r)) none) ≡ b && f r
+unfolding rootIs pick
+root-at f true r = refl
+root-at f false r = refl
+
+number-at : (f : ℕ → Bool) (b : Bool) (n : ℕ) → numberIs f (pick b (some (num n)) none) ≡ b && f n
+unfolding numberIs pick
+number-at f true n = refl
+number-at f false n = refl
+
+-- where there is no root of trust the first guard refuses, so that the next two may take it to be there
+guarded : {A : Type 0} (b x y : Bool) (k n m : ℕ) (e : Answer A) → guard b k 0 (guard x n 0 (guard y m 0 e)) ≡ guard (b && true) k 0 (guard (b && x) n 0 (guard (b && y) m 0 e))
+unfolding guard
+guarded true x y k n m e = refl
+guarded false x y k n m e = refl
+
 -- ---- 50 to 55
 
-pub not-generated : (l : FieldList) → not (presentAt l 24) ≡ true → false ≡ generated l
-unfolding generated
-not-generated l n = rw (not-true (presentAt l 24) n) refl
+module _ {A : Type 0} (b : Bool) (n p : ℕ) (m : Answer A) where
+  stops : not b ≡ true → refused n p ≡ guard b n p m
+  unfolding guard
+  stops e = rw (not-true b e) refl
 
-pub origin-read : (l : FieldList) → not (presentAt l 24) ≡ false → eqb (getD (l .values) 24 0) 0 ≡ generated l
-unfolding generated
-origin-read l n = rw (not-false (presentAt l 24) n) refl
+  passes : not b ≡ false → {x : Answer A} → x ≡ m → x ≡ guard b n p m
+  unfolding guard
+  passes e f = rw (not-false b e) f
 
-module _ (level keylevel : ℕ) (l : FieldList) (met : Bool) where
-  pub not-met : not met ≡ true → refused 50 0 ≡ judged level keylevel l met
-  unfolding judged guard
-  not-met a = rw (not-true met a) refl
+module _ (l : FieldList) (s : List ℕ) where
+  -- rows 24 and 26 are those of 702 and 704
+  origin-row : (f : ℕ → Bool) → numberIs f (fieldValue (fieldsOf l s) 702) ≡ presentAt l 24 && f (getD (l .values) 24 0)
+  unfolding valueAt rows
+  origin-row f = ap (numberIs f) (row-value l s 24 (lit< tt)) ∙ number-at f (presentAt l 24) (getD (l .values) 24 0)
 
-  module _ (a : not met ≡ false) where
-    pub level-software : level ≡ 0 → refused 51 0 ≡ judged level keylevel l met
-    unfolding judged guard aboveSoftware
-    level-software e = rw (not-false met a, eq-eqb level 0 e) refl
+  root-row : (f : Root → Bool) → rootIs f (fieldValue (fieldsOf l s) 704) ≡ presentAt l 26 && f (rootOf s (l .root))
+  unfolding valueAt rows
+  root-row f = ap (rootIs f) (row-value l s 26 (lit< tt)) ∙ root-at f (presentAt l 26) (rootOf s (l .root))
 
-    module _ (b : level ≡ 0 → ⊥) where
-      pub keylevel-software : keylevel ≡ 0 → refused 51 0 ≡ judged level keylevel l met
-      unfolding judged guard aboveSoftware
-      keylevel-software e = rw (not-false met a, ne-eqb level 0 b, eq-eqb keylevel 0 e) refl
+  pub not-generated : not (presentAt l 24) ≡ true → false ≡ generated (fieldsOf l s)
+  unfolding generated
+  not-generated n = rw (origin-row (λ n. eqb n 0), not-true (presentAt l 24) n) refl
 
-      module _ (d : keylevel ≡ 0 → ⊥) where
-        pub no-root : not (presentAt l 26) ≡ true → refused 52 0 ≡ judged level keylevel l met
-        unfolding judged guard aboveSoftware hasRoot
-        no-root e = rw (not-false met a, ne-eqb level 0 b, ne-eqb keylevel 0 d, not-true (presentAt l 26) e) refl
+  pub origin-read : not (presentAt l 24) ≡ false → eqb (getD (l .values) 24 0) 0 ≡ generated (fieldsOf l s)
+  unfolding generated
+  origin-read n = rw (origin-row (λ n. eqb n 0), not-false (presentAt l 24) n) refl
+
+  module _ (level keymintLevel : ℕ) (met : Bool) where
+    abbrev from-55 : Answer (Unit {0})
+    from-55 = guard (generated (fieldsOf l s)) 55 0 (got tt)
+
+    abbrev from-54 : Answer (Unit {0})
+    from-54 = guard (eqb (l .root .state) 0) 54 0 from-55
+
+    abbrev from-53 : Answer (Unit {0})
+    from-53 = guard (l .root .locked) 53 0 from-54
+
+    abbrev from-52 : Answer (Unit {0})
+    from-52 = guard (presentAt l 26) 52 0 from-53
+
+    abbrev from-51 : Answer (Unit {0})
+    from-51 = guard (not (eitherSoftware level keymintLevel)) 51 0 from-52
+
+    abbrev answer : Answer (Unit {0})
+    answer = judged level keymintLevel (fieldsOf l s) met
+
+    by-rows : guard met 50 0 from-51 ≡ answer
+    unfolding judged hasRoot bootLocked bootVerified
+    by-rows = rw (root-row (λ r. true), root-row (λ r. r .locked), root-row (λ r. eqb (r .state) 0), guarded (presentAt l 26) (l .root .locked) (eqb (l .root .state) 0) 52 53 54 from-55) refl
+
+    pub not-met : not met ≡ true → refused 50 0 ≡ answer
+    not-met a = stops met 50 0 from-51 a ∙ by-rows
+
+    module _ (a : not met ≡ false) where
+      past-50 : {x : Answer (Unit {0})} → x ≡ from-51 → x ≡ answer
+      past-50 e = passes met 50 0 from-51 a e ∙ by-rows
+
+      pub software-level : (eqb level 0 || eqb keymintLevel 0) ≡ true → refused 51 0 ≡ answer
+      unfolding eitherSoftware
+      software-level e = past-50 (stops (not (eitherSoftware level keymintLevel)) 51 0 from-52 (rw e refl))
+
+      module _ (d : (eqb level 0 || eqb keymintLevel 0) ≡ false) where
+        past-51 : {x : Answer (Unit {0})} → x ≡ from-52 → x ≡ answer
+        unfolding eitherSoftware
+        past-51 e = past-50 (passes (not (eitherSoftware level keymintLevel)) 51 0 from-52 (rw d refl) e)
+
+        pub no-root : not (presentAt l 26) ≡ true → refused 52 0 ≡ answer
+        no-root e = past-51 (stops (presentAt l 26) 52 0 from-53 e)
 
         module _ (e : not (presentAt l 26) ≡ false) where
-          pub unlocked : not (l .root .locked) ≡ true → refused 53 0 ≡ judged level keylevel l met
-          unfolding judged guard aboveSoftware hasRoot
-          unlocked f = rw (not-false met a, ne-eqb level 0 b, ne-eqb keylevel 0 d, not-false (presentAt l 26) e, not-true (l .root .locked) f) refl
+          past-52 : {x : Answer (Unit {0})} → x ≡ from-53 → x ≡ answer
+          past-52 f = past-51 (passes (presentAt l 26) 52 0 from-53 e f)
+
+          pub unlocked : not (l .root .locked) ≡ true → refused 53 0 ≡ answer
+          unlocked f = past-52 (stops (l .root .locked) 53 0 from-54 f)
 
           module _ (f : not (l .root .locked) ≡ false) where
-            pub not-verified : (l .root .state ≡ 0 → ⊥) → refused 54 0 ≡ judged level keylevel l met
-            unfolding judged guard aboveSoftware hasRoot
-            not-verified g = rw (not-false met a, ne-eqb level 0 b, ne-eqb keylevel 0 d, not-false (presentAt l 26) e, not-false (l .root .locked) f, ne-eqb (l .root .state) 0 g) refl
+            past-53 : {x : Answer (Unit {0})} → x ≡ from-54 → x ≡ answer
+            past-53 g = past-52 (passes (l .root .locked) 53 0 from-54 f g)
 
-            module _ (g : l .root .state ≡ 0) (m : Bool) (q : m ≡ generated l) where
-              last : judged level keylevel l met ≡ guard (generated l) 55 0 (got tt)
-              unfolding judged guard aboveSoftware hasRoot
-              last = rw (not-false met a, ne-eqb level 0 b, ne-eqb keylevel 0 d, not-false (presentAt l 26) e, not-false (l .root .locked) f, eq-eqb (l .root .state) 0 g) refl
+            pub not-verified : (l .root .state ≡ 0 → ⊥) → refused 54 0 ≡ answer
+            not-verified g = past-53 (stops (eqb (l .root .state) 0) 54 0 from-55 (rw (ne-eqb (l .root .state) 0 g) refl))
 
-              pub other-origin : not m ≡ true → refused 55 0 ≡ judged level keylevel l met
-              unfolding guard
-              other-origin h = sym (last ∙ rw (← q, not-true m h) refl)
+            module _ (g : l .root .state ≡ 0) (m : Bool) (q : (s : List ℕ) → m ≡ generated (fieldsOf l s)) where
+              past-54 : {x : Answer (Unit {0})} → x ≡ from-55 → x ≡ answer
+              past-54 h = past-53 (passes (eqb (l .root .state) 0) 54 0 from-55 (rw (eq-eqb (l .root .state) 0 g) refl) h)
 
-              pub taken-on : not m ≡ false → got tt ≡ judged level keylevel l met
-              unfolding guard
-              taken-on h = sym (last ∙ rw (← q, not-false m h) refl)
+              pub other-origin : not m ≡ true → refused 55 0 ≡ answer
+              other-origin h = past-54 (stops (generated (fieldsOf l s)) 55 0 (got tt) (rw (q s) at h))
+
+              pub taken-on : not m ≡ false → got tt ≡ answer
+              taken-on h = past-54 (passes (generated (fieldsOf l s)) 55 0 (got tt) (rw (q s) at h) refl)
 
 -- ---- the whole
 
@@ -145,6 +205,6 @@ module _ (r : Record) (s expected : List ℕ) where
     part-outside m = rw (← q, not-false b n, ← p, not-true d m) refl
 
     pub is-judged : not d ≡ false → (t : List ℕ) → t ≡ partOf s (r .challenge) → (met : Bool) → met ≡ challengeMet expected t → (a : Answer (Unit {0}))
-        → a ≡ judged (r .attestation .level) (r .keymint .level) (r .hardware) met → a ≡ enrolled r s expected
+        → ((s : List ℕ) → a ≡ judged (r .attestation .level) (r .keymint .level) (fieldsOf (r .hardware) s) met) → a ≡ enrolled r s expected
     unfolding enrolled guard
-    is-judged m t u met v a e = rw (← q, not-false b n, ← p, not-false d m, ← u, ← v) e
+    is-judged m t u met v a e = rw (← q, not-false b n, ← p, not-false d m, ← u, ← v) (e s)

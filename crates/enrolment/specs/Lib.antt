@@ -1,1 +1,2 @@
 pub mod Enrolled
+pub mod Statements

@@ -13,6 +13,9 @@ use records::octets::part_octets;
 use records::parts::parts_inside;
 use records::shape::well_shaped;
 ghost use mathlib.Core.Path.{_≡_};
+ghost use mathlib.Core.List.{List};
+ghost use Prim.Native.Nat.{ℕ};
+ghost use Rattle.records.specs.Content.{fieldsOf};
 ghost use Rattle.enrolment.specs.Enrolled.{sameOctets, challengeMet, generated, judged, enrolled, ofEnrolment};
 
 // The key may be taken on; or the first refusal, with place 0.
@@ -52,30 +55,32 @@ fn challenge_met(expected: &[u8], challenge: &[u8]) -> bool
     same_octets(expected, challenge)
 }
 
-// Origin (702) in the hardware list, and 0: the key was made in the device.
+// The rows of these fields in the schema's table, with their numbers.
+const ROW_ORIGIN: usize = 24; // 702
+
+const ROW_ROOT_OF_TRUST: usize = 26; // 704
+
+// Origin in the hardware list, and 0: the key was made in the device.
 fn generated(hardware: FieldList) -> bool
-    ensures { λ r. ⌜ r ≡ generated hardware ⌝ }
+    ensures { λ r. ⌜ ((s : List ℕ) → r ≡ generated (fieldsOf hardware s)) ⌝ }
 {
-    if !hardware.present[24] {
+    if !hardware.present[ROW_ORIGIN] {
         return false;
     }
-    hardware.values[24] == 0
+    hardware.values[ROW_ORIGIN] == 0
 }
 
-// 50 to 55, in order. The software list is not asked for.
-fn judge(level: u32, keylevel: u32, hardware: FieldList, met: bool) -> Enrolment
-    ensures { λ a. ⌜ ofEnrolment a ≡ judged level keylevel hardware met ⌝ }
+// 50 to 55, in order, wherever the octet parts lie. The software list is not asked for.
+fn judge(level: u32, keymint_level: u32, hardware: FieldList, met: bool) -> Enrolment
+    ensures { λ a. ⌜ ((s : List ℕ) → ofEnrolment a ≡ judged level «keymint_level» (fieldsOf hardware s) met) ⌝ }
 {
     if !met {
         return Enrolment::Refused(CHALLENGE_DIFFERS, 0);
     }
-    if level == 0 {
+    if (level == 0) | (keymint_level == 0) {
         return Enrolment::Refused(SOFTWARE_LEVEL, 0);
     }
-    if keylevel == 0 {
-        return Enrolment::Refused(SOFTWARE_LEVEL, 0);
-    }
-    if !hardware.present[26] {
+    if !hardware.present[ROW_ROOT_OF_TRUST] {
         return Enrolment::Refused(NO_ROOT_OF_TRUST, 0);
     }
     let root = hardware.root;
@@ -103,7 +108,5 @@ pub fn enrol(r: Record, s: &[u8], expected: &[u8]) -> Enrolment
         return Enrolment::Refused(ILL_SHAPED, 0);
     }
     let met = challenge_met(expected, part_octets(s, r.challenge));
-    let attestation = r.attestation;
-    let keymint = r.keymint;
-    judge(attestation.level, keymint.level, r.hardware, met)
+    judge(r.attestation.level, r.keymint.level, r.hardware, met)
 }

@@ -31,7 +31,7 @@ asking u q = record {
   locked = q .locked;
   present = q .present;
   confirmed = q .confirmed;
-  booted = q .booted;
+  «early_boot_over» = q .«early_boot_over»;
   uses = q .uses;
 }
 

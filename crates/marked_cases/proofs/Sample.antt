@@ -1,8 +1,11 @@
--- Document 01's extension is read as the record `said`, by computing; and how many bits its marks have, 32783 being taken
--- apart first, as a count of bits computes for small numbers alone. Assumes nothing.
+-- Document 01's extension is read as the record `said`, and its lists have these rules, by computing; and how many bits its
+-- marks have, 32783 being taken apart first, as a count of bits computes for small numbers alone. Assumes nothing.
 use mathlib.Core.Path.{_≡_, refl}
 use mathlib.Core.Bool.{true, false}
+use mathlib.Core.Option.{none, some}
+use mathlib.Core.List.{[], _∷_}
 use Prim.Native.Nat.{ℕ, _+_}
+use lib.Ieee.Bits.{is-true}
 use lib.Dec.{lit<}
 use lib.ListN.{set, replicate}
 use lib.Count.{ones, ones-cat}
@@ -15,6 +18,7 @@ use Rattle.codec.specs.Tree.{nodes, run, walkElement, firstPass}
 use Rattle.schema.specs.Table.{rows, knownVersion, heldIn, find, levelTop}
 use Rattle.schema.specs.Decode.{readInteger, readEnumerated, readOctets, nullOf, readNull, readMember, readSet, contentOf, rowContent, fieldContent, readField, readList, readVersion, readEight, decode, read}
 use Rattle.records.specs.Content.{valueAt, fieldAt, upTo}
+use Rattle.records.specs.Fields.{fieldValue}
 use Rattle.records.specs.Rows.{allBelow}
 use Rattle.records.specs.Parts.{contentInside, rowInside, listInside, partsInside}
 use Rattle.records.specs.Shape.{setShaped, valueShaped, rowShaped, listShaped, headShaped, wellShapedRecord}
@@ -23,6 +27,10 @@ use Rattle.records.specs.declared.Record.{Record}
 use Rattle.reader.specs.Reading.{Reads}
 use Rattle.reader.specs.declared.Outcome.{Outcome}
 use Rattle.reader.specs.Empty.{emptySet, emptyRoot}
+use Rattle.ruling.specs.Rules.{numberIn, setIn, there, Rules, rulesOf}
+use Rattle.ruling.specs.Ruling.{ruled, ruling}
+use Rattle.ruling.specs.declared.request.Request.{Request}
+use Rattle.ruling.proofs.Permitted.{well-shaped-is-ruled}
 use Rattle.marked_cases.specs.Cases.{extension}
 
 abbrev single : ℕ → NumberSet
@@ -60,6 +68,50 @@ said = record {
 pub said-read : Reads extension (Outcome.Accepted 26) said
 unfolding read decode readEight readVersion readList readField fieldContent rowContent contentOf readSet readMember readNull nullOf readOctets readEnumerated readInteger integerOf rows knownVersion heldIn find levelTop element tagged exactly both chain chainFuel under firstPass walkElement run nodes holds readHeader reported reportedPlace readIdentifier readHighNumber readLength octet guard bind pick valueAt fieldAt upTo allBelow contentInside rowInside listInside partsInside setShaped valueShaped rowShaped listShaped headShaped wellShapedRecord
 said-read = record { is = refl; empty = tt; sound = (tt, tt) }
+
+abbrev pub softwareSaid : Rules
+softwareSaid = record {
+  purpose = none;
+  algorithm = none;
+  padding = none;
+  digest = none;
+  keySize = none;
+  active = some 1609459200000;
+  origination = none;
+  usage = none;
+  authType = none;
+  authTimeout = none;
+  unlocked = false;
+  presence = false;
+  confirmation = false;
+  earlyBoot = false;
+  useLimit = none;
+  noAuth = false;
+}
+
+abbrev pub hardwareSaid : Rules
+hardwareSaid = record {
+  purpose = some (2 ∷ []);
+  algorithm = some 3;
+  padding = some (1 ∷ []);
+  digest = some (4 ∷ []);
+  keySize = none;
+  active = none;
+  origination = none;
+  usage = none;
+  authType = none;
+  authTimeout = none;
+  unlocked = false;
+  presence = false;
+  confirmation = false;
+  earlyBoot = false;
+  useLimit = none;
+  noAuth = true;
+}
+
+pub said-ruled : (q : Request) → ruling said q ≡ ruled 1 1 softwareSaid hardwareSaid q
+unfolding rulesOf numberIn setIn there fieldValue valueAt fieldAt upTo rows pick
+said-ruled q = well-shaped-is-ruled said q (is-true (wellShapedRecord said) (said-read .sound .0))
 
 -- 32783 is 1 · 2¹⁵ + 15
 pub hardware-parts : ones 32783 ≡ ones 1 + ones 15

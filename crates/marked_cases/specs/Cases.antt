@@ -1,9 +1,9 @@
--- Document 01's cases marked (P), as one list. A case states an answer of the very definitions that the contracts cite.
+-- Document 01's cases marked (P), as one list, `cases`, which is what to read first; `marked-cases` in proofs/Cases.antt is the
+-- theorem over it. A case states an answer of the very definitions that the contracts cite.
 use mathlib.Core.Path.{_≡_}
 use mathlib.Core.Option.{Option, none, some}
 use mathlib.Core.List.{List, [], _∷_}
 use Prim.Native.Nat.{ℕ}
-use lib.ListN.{length}
 use Rattle.answer.specs.Answer.{Answer, got, refused}
 use Rattle.answer.specs.Refusal.{keyTooSmall}
 use Rattle.schema.specs.Decode.{read}
@@ -113,3 +113,6 @@ cases =
     ∷ refuses (0x05 ∷ 0x00 ∷ 0x00 ∷ []) 7 2  -- "Input 05 00 00: 7 at 2"
     ∷ refuses (0x05 ∷ 0x00 ∷ []) 9 0  -- "Input 05 00: 9 at 0"
     ∷ []
+
+abbrev pub MarkedCases : Type 0
+MarkedCases = Every cases

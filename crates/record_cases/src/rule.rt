@@ -42,7 +42,7 @@ fn request_at(s: &[u8], at: usize) -> Request
         locked: flag(s, at + 88),
         present: flag(s, at + 96),
         confirmed: flag(s, at + 104),
-        booted: flag(s, at + 112),
+        early_boot_over: flag(s, at + 112),
         uses: word(s, at + 120),
     }
 }

@@ -78,11 +78,11 @@ looked-by p a m auth u v w x e f g h = rw (e, f, g, h) refl
 
 -- ---- the marks of a permit
 
-module _ (level keymint hardware software : ℕ) where
-  pub permit-joined : (eqb level 0 || eqb keymint 0) ≡ true → _≡_ {A = Answer Permit} (got (record { hardware = 0; hardwareBits = 0; software = bitOr hardware software; softwareBits = ones (bitOr hardware software) })) (got (permitOf level keymint hardware software))
+module _ (level keymintLevel hardware software : ℕ) where
+  pub permit-joined : (eqb level 0 || eqb keymintLevel 0) ≡ true → _≡_ {A = Answer Permit} (got (record { hardware = 0; hardwareBits = 0; software = bitOr hardware software; softwareBits = ones (bitOr hardware software) })) (got (permitOf level keymintLevel hardware software))
   unfolding permitOf permit pick ones
   permit-joined e = rw e refl
 
-  pub permit-apart : (eqb level 0 || eqb keymint 0) ≡ false → _≡_ {A = Answer Permit} (got (record { hardware = hardware; hardwareBits = ones hardware; software = software; softwareBits = ones software })) (got (permitOf level keymint hardware software))
+  pub permit-apart : (eqb level 0 || eqb keymintLevel 0) ≡ false → _≡_ {A = Answer Permit} (got (record { hardware = hardware; hardwareBits = ones hardware; software = software; softwareBits = ones software })) (got (permitOf level keymintLevel hardware software))
   unfolding permitOf permit pick
   permit-apart e = rw e refl

@@ -11,7 +11,7 @@ use lib.Dec.{T, eqb, leb, ltb}
 use Rattle.answer.specs.Answer.{pick}
 use Rattle.answer.proofs.Logic.{by-le}
 use Rattle.ruling.specs.Checks.{knownPurpose, purposeRefused, algorithmFits, paddingFits, paddingRefused, looksAtDigest, digestFits, digestRefused, digestBytes, keyBytes, keySizeRefused, signs, clockRefused, activeRefused, expiryRefused, authMissing, tokenRefused, recent, freshRefused, nullRefused, usesRefused}
-use Rattle.ruling.specs.Allowed.{Held, Each, InSets, Either, Signing, Deciphering}
+use Rattle.ruling.specs.Allowed.{Held, Each, InSets, Either, Signing, Deciphering, Recent}
 use Rattle.ruling.proofs.Means.{Means, equal, at-most, below, true-flag, both, one-of, only-with, negated, twice, says, held, each, in-sets}
 
 itself : (b : Bool) → Means b (T b)
@@ -88,10 +88,10 @@ pub means-39 : (ns nh : Bool) (s h : Option ℕ) → Means (not (authMissing ns 
 unfolding authMissing
 means-39 ns nh s h = twice (one-of (one-of (true-flag ns) (true-flag nh)) (held s h))
 
-pub means-40 : (token : Bool) (type : ℕ) (s h : Option ℕ) → Means (not (tokenRefused token type s h)) (Each s h (λ kinds. (token ≡ true) × (bitAnd type kinds ≡ 0 → ⊥)))
+pub means-40 : (token : Bool) (kinds : ℕ) (s h : Option ℕ) → Means (not (tokenRefused token kinds s h)) (Each s h (λ wanted. (token ≡ true) × (bitAnd kinds wanted ≡ 0 → ⊥)))
 unfolding tokenRefused
-means-40 token type s h =
-    twice (each (λ kinds. token && not (eqb (bitAnd type kinds) 0)) (λ kinds. (token ≡ true) × (bitAnd type kinds ≡ 0 → ⊥)) (λ kinds. both (true-flag token) (negated (equal (bitAnd type kinds) 0))) s h)
+means-40 token kinds s h =
+    twice (each (λ wanted. token && not (eqb (bitAnd kinds wanted) 0)) (λ wanted. (token ≡ true) × (bitAnd kinds wanted ≡ 0 → ⊥)) (λ wanted. both (true-flag token) (negated (equal (bitAnd kinds wanted) 0))) s h)
 
 picked : {a b c : Bool} {P Q R : Type 0} → Means a P → Means b Q → Means c R → Means (pick a b c) ((P → Q) × ((P → ⊥) → R))
 unfolding pick
@@ -100,9 +100,6 @@ picked {a} {b} {c} {P} {Q} {R} f g h = go a f
     go : (a : Bool) → Means a P → Means (pick a b c) ((P → Q) × ((P → ⊥) → R))
     go true f = record { to = λ t. (λ p. g .to t, λ n. absurd (n (f .to tt))); from = λ p. g .from (p .0 (f .to tt)) }
     go false f = record { to = λ t. (λ p. absurd (f .from p), λ n. h .to t); from = λ p. h .from (p .1 (λ x. f .from x)) }
-
-abbrev pub Recent : ℕ → ℕ → ℕ → Type 0
-Recent uptime time seconds = (time ≤ uptime) × (uptime - time ≤ 1000 * seconds)
 
 is-recent : (uptime time seconds : ℕ) → Means (recent uptime time seconds) (Recent uptime time seconds)
 unfolding recent

@@ -10,8 +10,9 @@ use lib.Dec.{eqb, leb, ltb, lit<}
 use borrow.Author.Tests.{le-ltb, lt-ltb, le-leb, lt-leb, eq-eqb, ne-eqb, not-true, not-false}
 use Rattle.answer.specs.Answer.{pick}
 use Rattle.answer.proofs.Logic.{by-le}
-use Rattle.ruling.specs.Rules.{given, allows}
+use Rattle.ruling.specs.Rules.{allows}
 use Rattle.ruling.specs.Checks.{agreed, digestBytes, keyBytes, signs, expiry, recent, freshRefused}
+use Rattle.ruling.specs.Code.{given}
 use Rattle.ruling.proofs.Tags.{there-given, allows-given}
 
 -- ---- 32

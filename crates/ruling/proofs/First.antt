@@ -1,14 +1,15 @@
 -- The first check that refuses: a check at a time, and group by group. Assumes nothing.
-use mathlib.Core.Path.{_≡_, refl, sym, ap, _∙_}
-use mathlib.Core.Bool.{Bool, true, false, not, _&&_}
+use mathlib.Core.Path.{_≡_, refl, sym, ap, subst, _∙_}
+use mathlib.Core.Bool.{Bool, true, false, _&&_}
 use mathlib.Core.List.{List, [], _∷_, _++_}
-use Prim.Native.Nat.{ℕ, _<_}
+use Prim.Native.Nat.{ℕ, _<_, _≤_}
 use native.Mathlib.Omega.{arith}
-use lib.Dec.{T, ltb, ltb→lt}
+use lib.Dec.{T, leb, ltb, ltb→lt, leb→le}
 use Rattle.answer.specs.Answer.{pick}
 use Rattle.answer.proofs.Logic.{and-left, and-right}
 use Rattle.ruling.specs.Rules.{Rules}
 use Rattle.ruling.specs.Ruling.{Check, firstRefusing, shapeChecks, dateChecks, tokenChecks, deviceChecks, checks}
+use Rattle.ruling.specs.Statements.{Clear, First}
 use Rattle.ruling.specs.declared.request.Request.{Request}
 
 -- ---- a check at a time: y is what the code found of it
@@ -85,11 +86,6 @@ module _ (s h : Rules) (q : Request) where
 
 -- ---- what the first that refuses says of the list
 
--- none of the checks refuses
-abbrev pub Clear : List Check → Type 0
-Clear [] = Unit {0}
-Clear (c ∷ cs) = T (not (c .1)) × Clear cs
-
 pub none-refuses : (cs : List Check) → T (numbered cs) → firstRefusing cs ≡ 0 → Clear cs
 unfolding firstRefusing pick
 none-refuses [] t e = tt
@@ -102,20 +98,38 @@ clear-first [] k = refl
 clear-first ((n, true) ∷ cs) k = absurd (k .0)
 clear-first ((n, false) ∷ cs) k = clear-first cs (k .1)
 
-pub first-found : (cs : List Check) → (firstRefusing cs ≡ 0 → ⊥) → (earlier : List Check) × (later : List Check) × (cs ≡ earlier ++ ((firstRefusing cs, true) ∷ later)) × Clear earlier
+pub first-found : (cs : List Check) → (firstRefusing cs ≡ 0 → ⊥) → First cs (firstRefusing cs)
 unfolding firstRefusing pick
 first-found [] n = absurd (n refl)
-first-found ((k, true) ∷ cs) n = ([], cs, refl, tt)
+first-found ((k, true) ∷ cs) n = record { earlier = []; later = cs; parted = refl; clear = tt }
 first-found ((k, false) ∷ cs) n =
     let w = first-found cs n in
-    ((k, false) ∷ w .0, w .1, ap (λ (l : List Check). (k, false) ∷ l) (w .2), (tt, w .3))
+    record { earlier = (k, false) ∷ w .earlier; later = w .later; parted = ap (λ (l : List Check). (k, false) ∷ l) (w .parted); clear = (tt, w .clear) }
 
-pub first-at : (earlier : List Check) (n : ℕ) (later : List Check) → Clear earlier → firstRefusing (earlier ++ ((n, true) ∷ later)) ≡ n
+first-at : (earlier : List Check) (n : ℕ) (later : List Check) → Clear earlier → firstRefusing (earlier ++ ((n, true) ∷ later)) ≡ n
 unfolding firstRefusing pick
 first-at [] n later k = refl
 first-at ((m, true) ∷ cs) n later k = absurd (k .0)
 first-at ((m, false) ∷ cs) n later k = first-at cs n later (k .1)
 
-pub numbered-at : (earlier : List Check) (n : ℕ) (later : List Check) → T (numbered (earlier ++ ((n, true) ∷ later))) → n ≡ 0 → ⊥
-numbered-at [] n later t e = let h : 0 < n = ltb→lt 0 n (and-left (ltb 0 n) (numbered later) t) in omega arith
-numbered-at (c ∷ cs) n later t e = numbered-at cs n later (and-right (ltb 0 (c .0)) (numbered (cs ++ ((n, true) ∷ later))) t) e
+pub first-is : (cs : List Check) (n : ℕ) → First cs n → firstRefusing cs ≡ n
+first-is cs n w = ap firstRefusing (w .parted) ∙ first-at (w .earlier) n (w .later) (w .clear)
+
+-- ---- numbers within bounds
+
+-- each check's number is from low to high
+abbrev pub between : ℕ → ℕ → List Check → Bool
+between low high [] = true
+between low high (c ∷ cs) = (leb low (c .0) && leb (c .0) high) && between low high cs
+
+first-between : (low high : ℕ) (earlier : List Check) (n : ℕ) (later : List Check) → T (between low high (earlier ++ ((n, true) ∷ later))) → (low ≤ n) × (n ≤ high)
+first-between low high [] n later t =
+    let u = and-left (leb low n && leb n high) (between low high later) t in
+    (leb→le low n (and-left (leb low n) (leb n high) u), leb→le n high (and-right (leb low n) (leb n high) u))
+first-between low high (c ∷ cs) n later t = first-between low high cs n later (and-right (leb low (c .0) && leb (c .0) high) (between low high (cs ++ ((n, true) ∷ later))) t)
+
+-- document 01's numbers of the checks
+pub first-numbered : (s h : Rules) (q : Request) (n : ℕ) → First (checks s h q) n → (30 ≤ n) × (n ≤ 46)
+unfolding shapeChecks dateChecks tokenChecks deviceChecks
+first-numbered s h q n w =
+    first-between 30 46 (w .earlier) n (w .later) (subst (λ (l : List Check). T (between 30 46 l)) (w .parted) tt)

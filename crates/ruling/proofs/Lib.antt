@@ -1,4 +1,5 @@
 pub mod Tags
+pub mod TagRows
 pub mod Checking
 pub mod Bits
 pub mod First

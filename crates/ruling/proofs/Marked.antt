@@ -12,14 +12,11 @@ use lib.Dec.{eqb, lit<}
 use lib.ListN.{getD}
 use Rattle.answer.specs.Answer.{got, pick}
 use Rattle.ruling.specs.Rules.{Rules}
-use Rattle.ruling.specs.Ruling.{bit, held, markOf, Permit, permit, permitOf, lookedAt, ruled}
+use Rattle.ruling.specs.Ruling.{bit, heldTags, markOf, Permit, permit, permitOf, lookedAt, ruled}
+use Rattle.ruling.specs.Statements.{bitAt, HeldIn, LookedAt, Software, Counts, HardwareExactly, SoftwareExactly, AppliedIsMarked}
 use Rattle.ruling.specs.declared.request.Request.{Request}
 use Rattle.ruling.proofs.Means.{Means, equal, true-flag, both, one-of, negated}
 use Rattle.ruling.proofs.Permitted.{permit-is}
-
--- bit k of a mark
-abbrev pub bitAt : ℕ → ℕ → ℕ
-bitAt mark k = mark / 2 ^ k % 2
 
 -- ---- bits of a mark and of two that are joined
 
@@ -90,65 +87,56 @@ module _ (level keymintLevel hardware software k : ℕ) (u v : Bool) (e : bitAt 
       go true = joined-bit k hardware software u v e f
       go false = f
 
-counted : (level keymintLevel hardware software : ℕ)
-    → (permitOf level keymintLevel hardware software .hardwareBits ≡ ones (permitOf level keymintLevel hardware software .hardware))
-    × (permitOf level keymintLevel hardware software .softwareBits ≡ ones (permitOf level keymintLevel hardware software .software))
+abbrev Counted : Permit → Type 0
+Counted w = (w .hardwareBits ≡ ones (w .hardware)) × (w .softwareBits ≡ ones (w .software))
+
+counted : (level keymintLevel hardware software : ℕ) → Counted (permitOf level keymintLevel hardware software)
 unfolding permitOf permit pick
 counted level keymintLevel hardware software = go (eqb level 0 || eqb keymintLevel 0)
   where
-    go : (b : Bool) → (pick b (permit 0 (bitOr hardware software)) (permit hardware software) .hardwareBits ≡ ones (pick b (permit 0 (bitOr hardware software)) (permit hardware software) .hardware)) × (pick b (permit 0 (bitOr hardware software)) (permit hardware software) .softwareBits ≡ ones (pick b (permit 0 (bitOr hardware software)) (permit hardware software) .software))
+    go : (b : Bool) → Counted (pick b (permit 0 (bitOr hardware software)) (permit hardware software))
     go true = (refl, refl)
     go false = (refl, refl)
 
-module _ (level keymintLevel : ℕ) (s h : Rules) (q : Request) (w : Permit) (e : ruled level keymintLevel s h q ≡ got w) where
-  -- "and how many bits are set in each"
-  pub counts : (w .hardwareBits ≡ ones (w .hardware)) × (w .softwareBits ≡ ones (w .software))
-  counts = rw (← permit-is level keymintLevel s h q e) (counted level keymintLevel (markOf (held h) (lookedAt s h q)) (markOf (held s) (lookedAt s h q)))
+pub counts : Counts
+counts level keymintLevel s h q w e =
+    rw (← permit-is level keymintLevel s h q e) (counted level keymintLevel (markOf (heldTags h) (lookedAt s h q)) (markOf (heldTags s) (lookedAt s h q)))
 
-  -- bit k's tag: that a list holds it, that it was looked at, and that either level is Software
-  module _ (k : ℕ) where
-    abbrev pub HeldIn : Rules → Type 0
-    HeldIn l = getD (held l) k false ≡ true
+-- ---- bit k of each mark
 
-    abbrev pub LookedAt : Type 0
-    LookedAt = getD (lookedAt s h q) k false ≡ true
+module _ (level keymintLevel : ℕ) (s h : Rules) (q : Request) (w : Permit) (e : ruled level keymintLevel s h q ≡ got w) (k : ℕ) where
+  abbrev bitOf : Rules → Bool
+  bitOf l = getD (heldTags l) k false && getD (lookedAt s h q) k false
 
-    abbrev pub Software : Type 0
-    Software = (level ≡ 0) ⊎ (keymintLevel ≡ 0)
+  mark-at : (l : Rules) → bitAt (markOf (heldTags l) (lookedAt s h q)) k ≡ bit (bitOf l)
+  mark-at l = mark-bit k (heldTags l) (lookedAt s h q)
 
-    abbrev hw : ℕ
-    hw = markOf (held h) (lookedAt s h q)
+  in-mark : (l : Rules) → Means (bitOf l) (HeldIn l k × LookedAt s h q k)
+  in-mark l = both (true-flag (getD (heldTags l) k false)) (true-flag (getD (lookedAt s h q) k false))
 
-    abbrev sw : ℕ
-    sw = markOf (held s) (lookedAt s h q)
+  low-means : Means (eqb level 0 || eqb keymintLevel 0) (Software level keymintLevel)
+  low-means = one-of (equal level 0) (equal keymintLevel 0)
 
-    abbrev bitOf : Rules → Bool
-    bitOf l = getD (held l) k false && getD (lookedAt s h q) k false
+  in-hardware : bitAt (w .hardware) k ≡ bit (not (eqb level 0 || eqb keymintLevel 0) && bitOf h)
+  in-hardware = rw (← permit-is level keymintLevel s h q e) (hardware-at level keymintLevel _ _ k (bitOf h) (bitOf s) (mark-at h) (mark-at s))
 
-    in-mark : (l : Rules) → Means (bitOf l) (HeldIn l × LookedAt)
-    in-mark l = both (true-flag (getD (held l) k false)) (true-flag (getD (lookedAt s h q) k false))
+  in-software : bitAt (w .software) k ≡ bit (((eqb level 0 || eqb keymintLevel 0) && bitOf h) || bitOf s)
+  in-software = rw (← permit-is level keymintLevel s h q e) (software-at level keymintLevel _ _ k (bitOf h) (bitOf s) (mark-at h) (mark-at s))
 
-    low-means : Means (eqb level 0 || eqb keymintLevel 0) Software
-    low-means = one-of (equal level 0) (equal keymintLevel 0)
+pub hardware-exactly : HardwareExactly
+hardware-exactly level keymintLevel s h q w e k =
+    exactly (in-hardware level keymintLevel s h q w e k)
+    (both (negated (low-means level keymintLevel s h q w e k)) (in-mark level keymintLevel s h q w e k h))
 
-    -- "A bit is set exactly when that list holds the tag and it was looked at .. If either level is Software, .. the
-    -- hardware mark is 0"
-    pub hardware-exactly : (bitAt (w .hardware) k ≡ 1) ↔ (Software → ⊥) × (HeldIn h × LookedAt)
-    hardware-exactly =
-        exactly (rw (← permit-is level keymintLevel s h q e) (hardware-at level keymintLevel hw sw k (bitOf h) (bitOf s) (mark-bit k (held h) (lookedAt s h q)) (mark-bit k (held s) (lookedAt s h q))))
-        (both (negated low-means) (in-mark h))
+pub software-exactly : SoftwareExactly
+software-exactly level keymintLevel s h q w e k =
+    exactly (in-software level keymintLevel s h q w e k)
+    (one-of (both (low-means level keymintLevel s h q w e k) (in-mark level keymintLevel s h q w e k h)) (in-mark level keymintLevel s h q w e k s))
 
-    -- ".. the hardware bits join the software mark"
-    pub software-exactly : (bitAt (w .software) k ≡ 1) ↔ (Software × (HeldIn h × LookedAt)) ⊎ (HeldIn s × LookedAt)
-    software-exactly =
-        exactly (rw (← permit-is level keymintLevel s h q e) (software-at level keymintLevel hw sw k (bitOf h) (bitOf s) (mark-bit k (held h) (lookedAt s h q)) (mark-bit k (held s) (lookedAt s h q))))
-        (one-of (both low-means (in-mark h)) (in-mark s))
-
-    -- "every rule that applies": a tag that a list holds and that was looked at stands in one of the marks
-    pub applied-is-marked : HeldIn s ⊎ HeldIn h → LookedAt → (bitAt (w .hardware) k ≡ 1) ⊎ (bitAt (w .software) k ≡ 1)
-    applied-is-marked (inl x) l = inr (software-exactly .1 (inr (x, l)))
-    applied-is-marked (inr x) l = go (eqb level 0 || eqb keymintLevel 0) low-means
-      where
-        go : (b : Bool) → Means b Software → (bitAt (w .hardware) k ≡ 1) ⊎ (bitAt (w .software) k ≡ 1)
-        go true m = inr (software-exactly .1 (inl (m .to tt, (x, l))))
-        go false m = inl (hardware-exactly .1 ((λ y. m .from y), (x, l)))
+pub applied-is-marked : AppliedIsMarked
+applied-is-marked level keymintLevel s h q w e k (inl x) l = inr (software-exactly level keymintLevel s h q w e k .1 (inr (x, l)))
+applied-is-marked level keymintLevel s h q w e k (inr x) l = go (eqb level 0 || eqb keymintLevel 0) (low-means level keymintLevel s h q w e k)
+  where
+    go : (b : Bool) → Means b (Software level keymintLevel) → (bitAt (w .hardware) k ≡ 1) ⊎ (bitAt (w .software) k ≡ 1)
+    go true m = inr (software-exactly level keymintLevel s h q w e k .1 (inl (m .to tt, (x, l))))
+    go false m = inl (hardware-exactly level keymintLevel s h q w e k .1 ((λ y. m .from y), (x, l)))

@@ -11,8 +11,8 @@ use Rattle.ruling.specs.Rules.{Rules}
 use Rattle.ruling.specs.Checks.{agreed, expiry, clockRefused, expiryRefused}
 use Rattle.ruling.specs.Ruling.{shapeChecks, dateChecks, tokenChecks, deviceChecks, checks}
 use Rattle.ruling.specs.Allowed.{Held, Each, Allowed, Signing, Deciphering}
+use Rattle.ruling.specs.Statements.{Clear}
 use Rattle.ruling.specs.declared.request.Request.{Request}
-use Rattle.ruling.proofs.First.{Clear}
 use Rattle.ruling.proofs.CheckMeanings.{Fits, means-30, means-31, means-32, means-33, means-34, means-35, means-36, means-37, means-38, signing, deciphering, means-39, means-40, means-41, means-forbids, means-wants, means-46}
 use Rattle.ruling.proofs.Shaping.{agreed-says, agreed-is, shape-of, shape-known, shape-fits, shape-padding, shape-digest, known-side}
 
@@ -94,11 +94,15 @@ module _ (s h : Rules) (q : Request) where
         unlocked = means-forbids (s .unlocked) (h .unlocked) (q .locked) .to k42;
         presence = means-wants (s .presence) (h .presence) (q .present) .to k43;
         confirmation = means-wants (s .confirmation) (h .confirmation) (q .confirmed) .to k44;
-        earlyBoot = means-forbids (s .earlyBoot) (h .earlyBoot) (q .booted) .to k45;
+        earlyBoot = means-forbids (s .earlyBoot) (h .earlyBoot) (q .«early_boot_over») .to k45;
         useLimit = means-46 (q .uses) (s .useLimit) (h .useLimit) .to k46;
       }
 
   -- ---- from the rules to the checks
+
+  -- one check more that does not refuse
+  clear : {A B : Type 0} → A → B → A × B
+  clear a b = (a, b)
 
   pub from-rules : Allowed s h q → Clear (checks s h q)
   unfolding shapeChecks dateChecks tokenChecks deviceChecks
@@ -108,52 +112,21 @@ module _ (s h : Rules) (q : Request) where
       let m = q .padding in
       let d = q .digest in
       let e : agreed (s .algorithm) (h .algorithm) ≡ a = agreed-is (s .algorithm) (h .algorithm) a (w .present) (w .agreed) in
-      let side = known-side p (shape-known p a m d (w .shape)) in (
-        means-30 p .from (shape-known p a m d (w .shape)),
-        (
-          means-31 p (s .purpose) (h .purpose) .from (w .purpose),
-          (
-            rw e (means-32 p a .from (shape-fits p a m d (w .shape))),
-            (
-              rw e (means-33 p a m (s .padding) (h .padding) .from (λ x. (shape-padding p a m d (w .shape) x, w .padding x))),
-              (
-                rw e (means-34 p a m d (s .digest) (h .digest) .from (λ x. (shape-digest p a m d (w .shape) x, w .digest x))),
-                (
-                  rw e (means-35 p a m d (s .keySize) (h .keySize) .from (w .keySize)),
-                  (
-                    clock-clear p (q .clock) (q .floor) (s .active) (h .active) (s .origination) (h .origination) (s .usage) (h .usage) side (w .floor) (w .originationFloor) (w .usageFloor),
-                    (
-                      means-37 (q .clock) (s .active) (h .active) .from (w .active),
-                      (
-                        expiry-clear p (q .clock) (q .floor) (s .active) (h .active) (s .origination) (h .origination) (s .usage) (h .usage) side (w .origination) (w .usage),
-                        (
-                          means-39 (s .noAuth) (h .noAuth) (s .authType) (h .authType) .from (w .auth),
-                          (
-                            means-40 (q .token .there) (q .token .kinds) (s .authType) (h .authType) .from (w .token),
-                            (
-                              means-41 (q .uptime) (q .token .time) (q .handle) (q .token .challenge) (s .authType) (h .authType) (s .authTimeout) (h .authTimeout) .from (λ x. ((λ y. w .recent x), w .bound x)),
-                              (
-                                means-forbids (s .unlocked) (h .unlocked) (q .locked) .from (w .unlocked),
-                                (
-                                  means-wants (s .presence) (h .presence) (q .present) .from (w .presence),
-                                  (
-                                    means-wants (s .confirmation) (h .confirmation) (q .confirmed) .from (w .confirmation),
-                                    (
-                                      means-forbids (s .earlyBoot) (h .earlyBoot) (q .booted) .from (w .earlyBoot),
-                                      (means-46 (q .uses) (s .useLimit) (h .useLimit) .from (w .useLimit), tt),
-                                    ),
-                                  ),
-                                ),
-                              ),
-                            ),
-                          ),
-                        ),
-                      ),
-                    ),
-                  ),
-                ),
-              ),
-            ),
-          ),
-        ),
-      )
+      let side = known-side p (shape-known p a m d (w .shape)) in
+      clear (means-30 p .from (shape-known p a m d (w .shape)))
+      (clear (means-31 p (s .purpose) (h .purpose) .from (w .purpose))
+      (clear (rw e (means-32 p a .from (shape-fits p a m d (w .shape))))
+      (clear (rw e (means-33 p a m (s .padding) (h .padding) .from (λ x. (shape-padding p a m d (w .shape) x, w .padding x))))
+      (clear (rw e (means-34 p a m d (s .digest) (h .digest) .from (λ x. (shape-digest p a m d (w .shape) x, w .digest x))))
+      (clear (rw e (means-35 p a m d (s .keySize) (h .keySize) .from (w .keySize)))
+      (clear (clock-clear p (q .clock) (q .floor) (s .active) (h .active) (s .origination) (h .origination) (s .usage) (h .usage) side (w .floor) (w .originationFloor) (w .usageFloor))
+      (clear (means-37 (q .clock) (s .active) (h .active) .from (w .active))
+      (clear (expiry-clear p (q .clock) (q .floor) (s .active) (h .active) (s .origination) (h .origination) (s .usage) (h .usage) side (w .origination) (w .usage))
+      (clear (means-39 (s .noAuth) (h .noAuth) (s .authType) (h .authType) .from (w .auth))
+      (clear (means-40 (q .token .there) (q .token .kinds) (s .authType) (h .authType) .from (w .token))
+      (clear (means-41 (q .uptime) (q .token .time) (q .handle) (q .token .challenge) (s .authType) (h .authType) (s .authTimeout) (h .authTimeout) .from (λ x. ((λ y. w .recent x), w .bound x)))
+      (clear (means-forbids (s .unlocked) (h .unlocked) (q .locked) .from (w .unlocked))
+      (clear (means-wants (s .presence) (h .presence) (q .present) .from (w .presence))
+      (clear (means-wants (s .confirmation) (h .confirmation) (q .confirmed) .from (w .confirmation))
+      (clear (means-forbids (s .earlyBoot) (h .earlyBoot) (q .«early_boot_over») .from (w .earlyBoot))
+      (clear (means-46 (q .uses) (s .useLimit) (h .useLimit) .from (w .useLimit)) tt))))))))))))))))

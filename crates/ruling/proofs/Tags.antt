@@ -9,12 +9,8 @@ use lib.Dec.{eqb}
 use lib.ListN.{length, take, drop, getD, length-take, drop-of-length-le}
 use lib.Seq.{drop-cons, getD-take}
 use borrow.Author.Tests.{le-ltb, lt-ltb, le-leb, lt-leb, eq-eqb, ne-eqb, not-true, not-false}
-use Rattle.ruling.specs.Rules.{given, numberTag, setTag, rulesOf, there, allows, member}
-use Rattle.ruling.specs.Code.{ofNumberTag, ofSetTag, ofRules}
-use Rattle.ruling.specs.declared.rules.NumberTag.{NumberTag}
-use Rattle.ruling.specs.declared.rules.SetTag.{SetTag}
-use Rattle.records.specs.Equal.{presentAt}
-use Rattle.records.specs.declared.FieldList.{FieldList}
+use Rattle.ruling.specs.Rules.{there, allows, member}
+use Rattle.ruling.specs.Code.{given}
 
 pub there-given : {A : Type 0} (b : Bool) (a : A) → there (given b a) ≡ b
 unfolding there given
@@ -39,33 +35,6 @@ module _ {A : Type 0} (f : A → Bool) (b : Bool) (a : A) where
   unfolding allows given
   there-allows n x e = rw (not-false b n) e
 
--- ---- a list's rules, tag by tag
-
-pub rules-by-tags : (l : FieldList) (purpose padding digest : SetTag) (algorithm size active origination usage auth timeout limit : NumberTag)
-    → ofSetTag purpose ≡ setTag l 0 (l .purpose) → ofNumberTag algorithm ≡ numberTag l 1 → ofSetTag padding ≡ setTag l 4 (l .padding) → ofSetTag digest ≡ setTag l 3 (l .digest)
-    → ofNumberTag size ≡ numberTag l 2 → ofNumberTag active ≡ numberTag l 10 → ofNumberTag origination ≡ numberTag l 11 → ofNumberTag usage ≡ numberTag l 12
-    → ofNumberTag auth ≡ numberTag l 15 → ofNumberTag timeout ≡ numberTag l 16 → ofNumberTag limit ≡ numberTag l 13
-    → ofRules (record {
-      purpose = purpose;
-      algorithm = algorithm;
-      padding = padding;
-      digest = digest;
-      size = size;
-      active = active;
-      origination = origination;
-      usage = usage;
-      auth = auth;
-      timeout = timeout;
-      unlocked = presentAt l 20;
-      presence = presentAt l 18;
-      confirmation = presentAt l 19;
-      early = presentAt l 9;
-      limit = limit;
-      noauth = presentAt l 14;
-    }) ≡ rulesOf l
-unfolding rulesOf
-rules-by-tags l purpose padding digest algorithm size active origination usage auth timeout limit e₀ e₁ e₂ e₃ e₄ e₅ e₆ e₇ e₈ e₉ e₁₀ = cc
-
 -- ---- membership in the first count of the slots
 
 module _ (n count i : ℕ) (members : List ℕ) (h : length members ≡ 16) where
@@ -81,13 +50,15 @@ module _ (n count i : ℕ) (members : List ℕ) (h : length members ≡ 16) wher
       let l : i < length (take count members) = rw slots (omega arith) in
       rw (drop-cons (take count members) i 0 l, getD-take count members i 0 p, add-one i) refl
 
-  pub counted-out : Ahead → count ≤ i → false ≡ member n (take count members)
+  none-ahead : Ahead → min count 16 ≤ i → false ≡ member n (take count members)
   unfolding member
-  counted-out e p = let l : length (take count members) ≤ i = rw slots (omega arith) in rw (e, drop-of-length-le (take count members) l) refl
+  none-ahead e p = let l : length (take count members) ≤ i = rw slots p in rw (e, drop-of-length-le (take count members) l) refl
+
+  pub counted-out : Ahead → count ≤ i → false ≡ member n (take count members)
+  counted-out e p = none-ahead e (omega arith)
 
   pub slots-out : Ahead → 16 ≤ i → false ≡ member n (take count members)
-  unfolding member
-  slots-out e p = let l : length (take count members) ≤ i = rw slots (omega arith) in rw (e, drop-of-length-le (take count members) l) refl
+  slots-out e p = none-ahead e (omega arith)
 
   pub member-found : Ahead → i < count → i < 16 → getD members i 0 ≡ n → true ≡ member n (take count members)
   member-found e p q f = rw (e, next p q, eq-eqb (getD members i 0) n f) refl

@@ -48,6 +48,10 @@ Signing p = (p ≡ 2) ⊎ (p ≡ 7)
 abbrev pub Deciphering : ℕ → Type 0
 Deciphering p = (p ≡ 1) ⊎ (p ≡ 6)
 
+-- a token of this time is at most so many seconds old; times are in ms
+abbrev pub Recent : ℕ → ℕ → ℕ → Type 0
+Recent uptime time seconds = (time ≤ uptime) × (uptime - time ≤ 1000 * seconds)
+
 pub record Allowed (s h : Rules) (q : Request) : Type 0 where
   -- 31
   pub purpose : InSets (q .purpose) (s .purpose) (h .purpose)
@@ -75,14 +79,13 @@ pub record Allowed (s h : Rules) (q : Request) : Type 0 where
   -- 39
   pub auth : Either (s .noAuth) (h .noAuth) ⊎ Held (s .authType) (h .authType)
   -- 40
-  pub token : Each (s .authType) (h .authType) (λ kinds. (q .token .there ≡ true) × (bitAnd (q .token .kinds) kinds ≡ 0 → ⊥))
+  pub token : Each (s .authType) (h .authType) (λ wanted. (q .token .there ≡ true) × (bitAnd (q .token .kinds) wanted ≡ 0 → ⊥))
   -- 41
-  pub recent : Held (s .authType) (h .authType)
-      → Each (s .authTimeout) (h .authTimeout) (λ seconds. (q .token .time ≤ q .uptime) × (q .uptime - q .token .time ≤ 1000 * seconds))
+  pub recent : Held (s .authType) (h .authType) → Each (s .authTimeout) (h .authTimeout) (Recent (q .uptime) (q .token .time))
   pub bound : Held (s .authType) (h .authType) → (Held (s .authTimeout) (h .authTimeout) → ⊥) → q .token .challenge ≡ q .handle
   -- 42 to 46
   pub unlocked : Either (s .unlocked) (h .unlocked) → q .locked ≡ false
   pub presence : Either (s .presence) (h .presence) → q .present ≡ true
   pub confirmation : Either (s .confirmation) (h .confirmation) → q .confirmed ≡ true
-  pub earlyBoot : Either (s .earlyBoot) (h .earlyBoot) → q .booted ≡ false
+  pub earlyBoot : Either (s .earlyBoot) (h .earlyBoot) → q .«early_boot_over» ≡ false
   pub useLimit : Each (s .useLimit) (h .useLimit) (λ limit. q .uses < limit)

@@ -108,7 +108,7 @@ authMissing ns nh s h = not ((ns || nh) || either s h)
 
 -- "504 present and no token, or the token's type shares no bit with it"
 unfoldable pub tokenRefused : Bool → ℕ → Option ℕ → Option ℕ → Bool
-tokenRefused token type s h = not (bothAllow (λ kinds. token && not (eqb (bitAnd type kinds) 0)) s h)
+tokenRefused token kinds s h = not (bothAllow (λ wanted. token && not (eqb (bitAnd kinds wanted) 0)) s h)
 
 -- "token time after uptime or uptime - token time > 1000 times it"
 unfoldable pub recent : ℕ → ℕ → ℕ → Bool

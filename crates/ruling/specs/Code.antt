@@ -1,17 +1,23 @@
 -- What the code's values stand for: a tag that is not there is none, whatever its value, and an answer is a permit or
 -- document 01's number and place.
-use mathlib.Core.Option.{Option}
+use mathlib.Core.Bool.{Bool, true, false}
+use mathlib.Core.Option.{Option, none, some}
 use mathlib.Core.List.{List}
 use Prim.Native.Nat.{ℕ}
 use Rattle.answer.specs.Answer.{Answer, got, refused}
 use Rattle.records.specs.Content.{membersOf}
-use Rattle.ruling.specs.Rules.{Rules, given}
+use Rattle.ruling.specs.Rules.{Rules}
 use Rattle.ruling.specs.Ruling.{Permit}
 use Rattle.ruling.specs.declared.Ruling.{Ruling}
 use Rattle.ruling.specs.declared.Ruling.the-variants as variant
 use Rattle.ruling.specs.declared.rules.NumberTag.{NumberTag}
 use Rattle.ruling.specs.declared.rules.SetTag.{SetTag}
 use Rattle.ruling.specs.declared.rules.Rules as code
+
+-- a value that is there or not
+unfoldable pub given : {A : Type 0} → Bool → A → Option A
+given true a = some a
+given false a = none
 
 -- a flag and a number
 abbrev pub ofNumberTag : NumberTag → Option ℕ
@@ -28,18 +34,18 @@ ofRules r = record {
   algorithm = ofNumberTag (r .algorithm);
   padding = ofSetTag (r .padding);
   digest = ofSetTag (r .digest);
-  keySize = ofNumberTag (r .size);
+  keySize = ofNumberTag (r .«key_size»);
   active = ofNumberTag (r .active);
   origination = ofNumberTag (r .origination);
   usage = ofNumberTag (r .usage);
-  authType = ofNumberTag (r .auth);
-  authTimeout = ofNumberTag (r .timeout);
+  authType = ofNumberTag (r .«auth_type»);
+  authTimeout = ofNumberTag (r .«auth_timeout»);
   unlocked = r .unlocked;
   presence = r .presence;
   confirmation = r .confirmation;
-  earlyBoot = r .early;
-  useLimit = ofNumberTag (r .limit);
-  noAuth = r .noauth;
+  earlyBoot = r .«early_boot»;
+  useLimit = ofNumberTag (r .«use_limit»);
+  noAuth = r .«no_auth»;
 }
 
 -- a permit's marks and counts, or a refusal

@@ -3,3 +3,4 @@ pub mod Checks
 pub mod Ruling
 pub mod Code
 pub mod Allowed
+pub mod Statements

@@ -1,15 +1,54 @@
--- Document 01, "The use ruling": the tags of one list that a use is ruled by. What is absent says nothing, and of a set
--- only its members count: neither octet parts, nor spare slots, nor the values of absent fields stand here.
+-- Document 01, "The use ruling": the tags of one list that a use is ruled by, each by the number of its field. What is
+-- absent says nothing, and of a set only its members count.
 use mathlib.Core.Bool.{Bool, true, false, _&&_, _||_}
 use mathlib.Core.Option.{Option, none, some}
 use mathlib.Core.List.{List, [], _∷_}
 use Prim.Native.Nat.{ℕ}
-use lib.ListN.{getD}
 use lib.Dec.{eqb}
-use Rattle.records.specs.Content.{membersOf}
-use Rattle.records.specs.Equal.{presentAt}
-use Rattle.records.specs.declared.NumberSet.{NumberSet}
+use Rattle.schema.specs.Content.{Value, num, nul, oct, nums, trust, Field}
+use Rattle.records.specs.Content.{fieldsOf}
+use Rattle.records.specs.Fields.{fieldValue}
 use Rattle.records.specs.declared.FieldList.{FieldList}
+
+-- ---- what a list says of a number
+
+-- "octet parts aren't looked at here": they may as well lie in no bytes
+abbrev pub saidFields : FieldList → List Field
+saidFields l = fieldsOf l []
+
+-- the INTEGER of a value, and the members of a set
+unfoldable pub numberIn : Option Value → Option ℕ
+numberIn none = none
+numberIn (some (num n)) = some n
+numberIn (some nul) = none
+numberIn (some (oct bs)) = none
+numberIn (some (nums l)) = none
+numberIn (some (trust r)) = none
+
+unfoldable pub setIn : Option Value → Option (List ℕ)
+setIn none = none
+setIn (some (num n)) = none
+setIn (some nul) = none
+setIn (some (oct bs)) = none
+setIn (some (nums l)) = some l
+setIn (some (trust r)) = none
+
+-- a tag is there, in one list
+unfoldable pub there : {A : Type 0} → Option A → Bool
+there none = false
+there (some a) = true
+
+-- the INTEGER and the members under a field's number, and whether there is such a field at all
+abbrev pub numberUnder : List Field → ℕ → Option ℕ
+numberUnder fs n = numberIn (fieldValue fs n)
+
+abbrev pub setUnder : List Field → ℕ → Option (List ℕ)
+setUnder fs n = setIn (fieldValue fs n)
+
+abbrev pub holdsNumber : List Field → ℕ → Bool
+holdsNumber fs n = there (fieldValue fs n)
+
+-- ---- the sixteen tags, in the order of a mark's bits
 
 pub record Rules : Type 0 where
   pub purpose : Option (List ℕ)
@@ -29,45 +68,30 @@ pub record Rules : Type 0 where
   pub useLimit : Option ℕ
   pub noAuth : Bool
 
--- a value that is there or not
-unfoldable pub given : {A : Type 0} → Bool → A → Option A
-given true a = some a
-given false a = none
-
--- the number of row k, if the list holds it
-abbrev pub numberTag : FieldList → ℕ → Option ℕ
-numberTag l k = given (presentAt l k) (getD (l .values) k 0)
-
--- a set of row k, if the list holds it
-abbrev pub setTag : FieldList → ℕ → NumberSet → Option (List ℕ)
-setTag l k g = given (presentAt l k) (membersOf g)
-
--- by the rows of the schema's table
-unfoldable pub rulesOf : FieldList → Rules
-rulesOf l = record {
-  purpose = setTag l 0 (l .purpose);
-  algorithm = numberTag l 1;
-  padding = setTag l 4 (l .padding);
-  digest = setTag l 3 (l .digest);
-  keySize = numberTag l 2;
-  active = numberTag l 10;
-  origination = numberTag l 11;
-  usage = numberTag l 12;
-  authType = numberTag l 15;
-  authTimeout = numberTag l 16;
-  unlocked = presentAt l 20;
-  presence = presentAt l 18;
-  confirmation = presentAt l 19;
-  earlyBoot = presentAt l 9;
-  useLimit = numberTag l 13;
-  noAuth = presentAt l 14;
+-- "1 purpose, 5 digest, 6 padding", "400 active, 401 origination expiry, 402 usage expiry", "2 algorithm, 3 keySize",
+-- "405 use limit, 504 auth type, 505 auth timeout (seconds)", "305 early boot", "503 no auth", "507 presence, 508
+-- confirmation, 509 unlocked"
+unfoldable pub rulesOf : List Field → Rules
+rulesOf fs = record {
+  purpose = setUnder fs 1;
+  algorithm = numberUnder fs 2;
+  padding = setUnder fs 6;
+  digest = setUnder fs 5;
+  keySize = numberUnder fs 3;
+  active = numberUnder fs 400;
+  origination = numberUnder fs 401;
+  usage = numberUnder fs 402;
+  authType = numberUnder fs 504;
+  authTimeout = numberUnder fs 505;
+  unlocked = holdsNumber fs 509;
+  presence = holdsNumber fs 507;
+  confirmation = holdsNumber fs 508;
+  earlyBoot = holdsNumber fs 305;
+  useLimit = numberUnder fs 405;
+  noAuth = holdsNumber fs 503;
 }
 
 -- ---- "A tag in either list applies; in both, both must allow. A set tag must be in at least one list."
-
-unfoldable pub there : {A : Type 0} → Option A → Bool
-there none = false
-there (some a) = true
 
 -- one list's tag allows: an absent one does
 unfoldable pub allows : {A : Type 0} → (A → Bool) → Option A → Bool

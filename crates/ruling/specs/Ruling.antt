@@ -9,7 +9,7 @@ use Rattle.answer.specs.Answer.{Answer, got, refused, guard, pick}
 use Rattle.answer.specs.Refusal.{illShaped, purposeUnknown, purposeNotAllowed, algorithmUnfit, paddingNotAllowed, digestNotAllowed, keyTooSmall, clockBelowFloor, notYetActive, expired, noAuthRule, tokenUnfit, tokenNotFresh, deviceLocked, userNotPresent, notConfirmed, earlyBootOver, usedUp}
 use Rattle.records.specs.Shape.{wellShapedRecord}
 use Rattle.records.specs.declared.Record.{Record}
-use Rattle.ruling.specs.Rules.{Rules, rulesOf, there, either}
+use Rattle.ruling.specs.Rules.{Rules, saidFields, rulesOf, there, either}
 use Rattle.ruling.specs.Checks.{knownPurpose, purposeRefused, agreed, algorithmFits, looksAtPadding, paddingRefused, looksAtDigest, digestRefused, looksAtKeySize, keySizeRefused, signs, expiry, clockRefused, activeRefused, expiryRefused, authMissing, tokenRefused, freshRefused, nullRefused, usesRefused}
 use Rattle.ruling.specs.declared.request.Request.{Request}
 
@@ -55,7 +55,7 @@ deviceChecks s h q =
     (deviceLocked, nullRefused (s .unlocked) (h .unlocked) (q .locked))
     ∷ (userNotPresent, nullRefused (s .presence) (h .presence) (not (q .present)))
     ∷ (notConfirmed, nullRefused (s .confirmation) (h .confirmation) (not (q .confirmed)))
-    ∷ (earlyBootOver, nullRefused (s .earlyBoot) (h .earlyBoot) (q .booted))
+    ∷ (earlyBootOver, nullRefused (s .earlyBoot) (h .earlyBoot) (q .«early_boot_over»))
     ∷ (usedUp, usesRefused (q .uses) (s .useLimit) (h .useLimit))
     ∷ []
 
@@ -67,8 +67,8 @@ checks s h q = shapeChecks s h q ++ (dateChecks s h q ++ (tokenChecks s h q ++ d
 
 -- "Bits from 0: purpose, algorithm, padding, digest, keySize, 400, 401, 402, 504, 505, 509, 507, 508, 305, 405, 503":
 -- which of them a list holds
-unfoldable pub held : Rules → List Bool
-held l =
+unfoldable pub heldTags : Rules → List Bool
+heldTags l =
     there (l .purpose)
     ∷ there (l .algorithm)
     ∷ there (l .padding)
@@ -145,9 +145,9 @@ unless number a = pick (eqb number 0) (got a) (refused number 0)
 
 unfoldable pub ruled : ℕ → ℕ → Rules → Rules → Request → Answer Permit
 ruled level keymintLevel s h q =
-    unless (firstRefusing (checks s h q)) (permitOf level keymintLevel (markOf (held h) (lookedAt s h q)) (markOf (held s) (lookedAt s h q)))
+    unless (firstRefusing (checks s h q)) (permitOf level keymintLevel (markOf (heldTags h) (lookedAt s h q)) (markOf (heldTags s) (lookedAt s h q)))
 
 unfoldable pub ruling : Record → Request → Answer Permit
 ruling r q =
     guard (wellShapedRecord r) illShaped 0
-    (ruled (r .attestation .level) (r .keymint .level) (rulesOf (r .software)) (rulesOf (r .hardware)) q)
+    (ruled (r .attestation .level) (r .keymint .level) (rulesOf (saidFields (r .software))) (rulesOf (saidFields (r .hardware))) q)

@@ -64,21 +64,21 @@ fn sets_allow(n: u64, s: SetTag, h: SetTag) -> bool
 }
 
 // 30: whether the purpose is one of the four.
-pub fn known_purpose(p: u64) -> bool
+pub(crate) fn known_purpose(p: u64) -> bool
     ensures { λ b. ⌜ b ≡ knownPurpose p ⌝ }
 {
     (p == DECRYPT) | ((p == SIGN) | ((p == AGREE_KEY) | (p == ATTEST_KEY)))
 }
 
 // 31: the purpose isn't allowed.
-pub fn purpose_refused(p: u64, s: SetTag, h: SetTag) -> bool
+pub(crate) fn purpose_refused(p: u64, s: SetTag, h: SetTag) -> bool
     ensures { λ b. ⌜ b ≡ purposeRefused p (ofSetTag s) (ofSetTag h) ⌝ }
 {
     !sets_allow(p, s, h)
 }
 
 // The algorithm, or 0 where it is absent or the lists disagree.
-pub fn agreed(s: NumberTag, h: NumberTag) -> u64
+pub(crate) fn agreed(s: NumberTag, h: NumberTag) -> u64
     ensures { λ n. ⌜ n ≡ agreed (ofNumberTag s) (ofNumberTag h) ⌝ }
 {
     if !s.there {
@@ -97,7 +97,7 @@ pub fn agreed(s: NumberTag, h: NumberTag) -> u64
 }
 
 // 32: whether the algorithm goes with the purpose.
-pub fn algorithm_fits(p: u64, a: u64) -> bool
+pub(crate) fn algorithm_fits(p: u64, a: u64) -> bool
     ensures { λ b. ⌜ b ≡ algorithmFits p a ⌝ }
 {
     ((a == RSA) & ((p == DECRYPT) | ((p == SIGN) | (p == ATTEST_KEY))))
@@ -117,21 +117,21 @@ fn padding_fits(p: u64, a: u64, m: u64) -> bool
     m == 1
 }
 
-pub fn looks_at_padding(p: u64) -> bool
+pub(crate) fn looks_at_padding(p: u64) -> bool
     ensures { λ b. ⌜ b ≡ looksAtPadding p ⌝ }
 {
     (p == DECRYPT) | (p == SIGN)
 }
 
 // 33: by shape and by the sets.
-pub fn padding_refused(p: u64, a: u64, m: u64, s: SetTag, h: SetTag) -> bool
+pub(crate) fn padding_refused(p: u64, a: u64, m: u64, s: SetTag, h: SetTag) -> bool
     ensures { λ b. ⌜ b ≡ paddingRefused p a m (ofSetTag s) (ofSetTag h) ⌝ }
 {
     looks_at_padding(p) & !(padding_fits(p, a, m) & sets_allow(m, s, h))
 }
 
 // Padding 2 is the only one of DECRYPT that names a digest.
-pub fn looks_at_digest(p: u64, m: u64) -> bool
+pub(crate) fn looks_at_digest(p: u64, m: u64) -> bool
     ensures { λ b. ⌜ b ≡ looksAtDigest p m ⌝ }
 {
     (p == SIGN) | ((p == DECRYPT) & (m == 2))
@@ -154,7 +154,7 @@ fn digest_fits(a: u64, m: u64, d: u64) -> bool
 }
 
 // 34: by shape and by the sets.
-pub fn digest_refused(p: u64, a: u64, m: u64, d: u64, s: SetTag, h: SetTag) -> bool
+pub(crate) fn digest_refused(p: u64, a: u64, m: u64, d: u64, s: SetTag, h: SetTag) -> bool
     ensures { λ b. ⌜ b ≡ digestRefused p a m d (ofSetTag s) (ofSetTag h) ⌝ }
 {
     looks_at_digest(p, m) & !(digest_fits(a, m, d) & sets_allow(d, s, h))
@@ -183,14 +183,14 @@ fn digest_bytes(d: u64) -> u64
     64
 }
 
-pub fn looks_at_key_size(p: u64, a: u64, m: u64) -> bool
+pub(crate) fn looks_at_key_size(p: u64, a: u64, m: u64) -> bool
     ensures { λ b. ⌜ b ≡ looksAtKeySize p a m ⌝ }
 {
     (p == SIGN) & ((a == RSA) & (m == 3))
 }
 
 // A key of so many bits has 2D+2 octets: one bit more than 2D+1 whole octets is enough.
-fn size_allows(d: u64, t: NumberTag) -> bool
+fn key_size_allows(d: u64, t: NumberTag) -> bool
     ensures { λ b. ⌜ b ≡ allows (λ bits. leb (2 * digestBytes d + 2) (keyBytes bits)) (ofNumberTag t) ⌝ }
 {
     let whole = 2 * digest_bytes(d) + 1;
@@ -198,20 +198,21 @@ fn size_allows(d: u64, t: NumberTag) -> bool
 }
 
 // 35: absent from both lists, or too small in one that has it.
-pub fn key_size_refused(p: u64, a: u64, m: u64, d: u64, s: NumberTag, h: NumberTag) -> bool
+pub(crate) fn key_size_refused(p: u64, a: u64, m: u64, d: u64, s: NumberTag, h: NumberTag) -> bool
     ensures { λ b. ⌜ b ≡ keySizeRefused p a m d (ofNumberTag s) (ofNumberTag h) ⌝ }
 {
-    looks_at_key_size(p, a, m) & !((s.there | h.there) & (size_allows(d, s) & size_allows(d, h)))
+    looks_at_key_size(p, a, m)
+        & !((s.there | h.there) & (key_size_allows(d, s) & key_size_allows(d, h)))
 }
 
-pub fn signs(p: u64) -> bool
+pub(crate) fn signs(p: u64) -> bool
     ensures { λ b. ⌜ b ≡ signs p ⌝ }
 {
     (p == SIGN) | (p == ATTEST_KEY)
 }
 
 // The expiry date that applies: 401 to SIGN and ATTEST_KEY, else 402.
-pub fn expiry(p: u64, origination: NumberTag, usage: NumberTag) -> NumberTag
+pub(crate) fn expiry(p: u64, origination: NumberTag, usage: NumberTag) -> NumberTag
     ensures { λ t. ⌜ ofNumberTag t ≡ expiry p (ofNumberTag origination) (ofNumberTag usage) ⌝ }
 {
     if signs(p) {
@@ -221,7 +222,7 @@ pub fn expiry(p: u64, origination: NumberTag, usage: NumberTag) -> NumberTag
 }
 
 // 36: a date tag applies and the clock is below its floor; a is 400 and e the expiry date that applies.
-pub fn clock_refused(
+pub(crate) fn clock_refused(
     clock: u64,
     floor: u64,
     sa: NumberTag,
@@ -235,28 +236,28 @@ pub fn clock_refused(
 }
 
 // 37: before 400. Equality is allowed.
-pub fn active_refused(clock: u64, s: NumberTag, h: NumberTag) -> bool
+pub(crate) fn active_refused(clock: u64, s: NumberTag, h: NumberTag) -> bool
     ensures { λ b. ⌜ b ≡ activeRefused clock (ofNumberTag s) (ofNumberTag h) ⌝ }
 {
     !((!s.there | (s.value <= clock)) & (!h.there | (h.value <= clock)))
 }
 
 // 38: after the expiry date that applies. Equality is allowed.
-pub fn expiry_refused(clock: u64, s: NumberTag, h: NumberTag) -> bool
+pub(crate) fn expiry_refused(clock: u64, s: NumberTag, h: NumberTag) -> bool
     ensures { λ b. ⌜ b ≡ expiryRefused clock (ofNumberTag s) (ofNumberTag h) ⌝ }
 {
     !((!s.there | (clock <= s.value)) & (!h.there | (clock <= h.value)))
 }
 
 // 39: neither 503 nor 504; n is 503, s and h are 504.
-pub fn auth_missing(ns: bool, nh: bool, s: NumberTag, h: NumberTag) -> bool
+pub(crate) fn auth_missing(ns: bool, nh: bool, s: NumberTag, h: NumberTag) -> bool
     ensures { λ b. ⌜ b ≡ authMissing ns nh (ofNumberTag s) (ofNumberTag h) ⌝ }
 {
     !((ns | nh) | (s.there | h.there))
 }
 
 // 40: no token, or one whose type shares no bit with a 504.
-pub fn token_refused(token: bool, kinds: u64, s: NumberTag, h: NumberTag) -> bool
+pub(crate) fn token_refused(token: bool, kinds: u64, s: NumberTag, h: NumberTag) -> bool
     ensures { λ b. ⌜ b ≡ tokenRefused token kinds (ofNumberTag s) (ofNumberTag h) ⌝ }
 {
     !((!s.there | (token & (kinds & s.value != 0))) & (!h.there | (token & (kinds & h.value != 0))))
@@ -281,7 +282,7 @@ fn recent(uptime: u64, time: u64, seconds: u64) -> bool
 }
 
 // 505 of one list allows: an absent one does.
-fn timeout_allows(uptime: u64, time: u64, t: NumberTag) -> bool
+fn auth_timeout_allows(uptime: u64, time: u64, t: NumberTag) -> bool
     ensures { λ b. ⌜ b ≡ allows (recent uptime time) (ofNumberTag t) ⌝ }
 {
     if !t.there {
@@ -291,7 +292,7 @@ fn timeout_allows(uptime: u64, time: u64, t: NumberTag) -> bool
 }
 
 // 41: a token that is not fresh, or for another operation; a is 504 and t is 505.
-pub fn fresh_refused(
+pub(crate) fn fresh_refused(
     uptime: u64,
     time: u64,
     handle: u64,
@@ -307,20 +308,20 @@ pub fn fresh_refused(
         return false;
     }
     if st.there | ht.there {
-        return !(timeout_allows(uptime, time, st) & timeout_allows(uptime, time, ht));
+        return !(auth_timeout_allows(uptime, time, st) & auth_timeout_allows(uptime, time, ht));
     }
     challenge != handle
 }
 
 // 42 to 45: a NULL tag of either list, and what it forbids.
-pub fn null_refused(s: bool, h: bool, forbidden: bool) -> bool
+pub(crate) fn null_refused(s: bool, h: bool, forbidden: bool) -> bool
     ensures { λ b. ⌜ b ≡ nullRefused s h forbidden ⌝ }
 {
     (s | h) & forbidden
 }
 
 // 46: the uses so far have reached 405.
-pub fn uses_refused(uses: u64, s: NumberTag, h: NumberTag) -> bool
+pub(crate) fn uses_refused(uses: u64, s: NumberTag, h: NumberTag) -> bool
     ensures { λ b. ⌜ b ≡ usesRefused uses (ofNumberTag s) (ofNumberTag h) ⌝ }
 {
     !((!s.there | (uses < s.value)) & (!h.there | (uses < h.value)))

@@ -1,9 +1,9 @@
 // The use ruling (document 01, "The use ruling"): whether a key may be put to a use, by the rules of both its lists.
-pub mod checks;
-pub mod marks;
-pub mod order;
+mod checks;
+mod marks;
+mod order;
 pub mod request;
-pub mod rules;
+mod rules;
 
 use answer::ILL_SHAPED;
 use records::Record;
@@ -28,30 +28,27 @@ pub enum Ruling {
 fn looked_at(s: Rules, h: Rules, q: Request) -> [bool; 16]
     ensures { λ l. ⌜ l ≡ lookedAt (ofRules s) (ofRules h) q ⌝ }
 {
-    let sa = s.algorithm;
-    let ha = h.algorithm;
-    let st = s.auth;
-    let ht = h.auth;
+    let algorithm = checks::agreed(s.algorithm, h.algorithm);
     marks::looked(
         q.purpose,
-        checks::agreed(sa, ha),
+        algorithm,
         q.padding,
-        st.there | ht.there,
+        s.auth_type.there | h.auth_type.there,
     )
 }
 
 // The ruling by the rules of both lists: the first refusal, or a permit with its marks.
-fn ruled(level: u32, keymint: u32, s: Rules, h: Rules, q: Request) -> Ruling
-    ensures { λ a. ⌜ ofRuling a ≡ ruled level keymint (ofRules s) (ofRules h) q ⌝ }
+fn ruled(level: u32, keymint_level: u32, s: Rules, h: Rules, q: Request) -> Ruling
+    ensures { λ a. ⌜ ofRuling a ≡ ruled level «keymint_level» (ofRules s) (ofRules h) q ⌝ }
 {
     let number = order::first_refusal(s, h, q);
     if number != 0 {
         return Ruling::Refused(number, 0);
     }
     let asked = looked_at(s, h, q);
-    let hardware = marks::mark_of(marks::held(h), asked);
-    let software = marks::mark_of(marks::held(s), asked);
-    marks::permit(level, keymint, hardware, software)
+    let hardware = marks::mark_of(marks::held_tags(h), asked);
+    let software = marks::mark_of(marks::held_tags(s), asked);
+    marks::permit(level, keymint_level, hardware, software)
 }
 
 // Whether, and by which rules, a key of this record may be put to this use; a record that is not well-shaped gives 20.
@@ -61,15 +58,7 @@ pub fn rule(r: Record, q: Request) -> Ruling
     if !records::shape::well_shaped(r) {
         return Ruling::Refused(ILL_SHAPED, 0);
     }
-    let attestation = r.attestation;
-    let keymint = r.keymint;
-    let software = r.software;
-    let hardware = r.hardware;
-    ruled(
-        attestation.level,
-        keymint.level,
-        rules::rules_of(software),
-        rules::rules_of(hardware),
-        q,
-    )
+    let software = rules::rules_of(r.software);
+    let hardware = rules::rules_of(r.hardware);
+    ruled(r.attestation.level, r.keymint.level, software, hardware, q)
 }

@@ -8,58 +8,47 @@ use crate::rules::Rules;
 ghost use mathlib.Core.Path.{_≡_};
 ghost use Prim.Native.Nat.{_+_, _*_, _<_, _^_};
 ghost use Rattle.answer.specs.Answer.{got};
-ghost use Rattle.ruling.specs.Ruling.{bit, held, looked, markOf, permitOf};
+ghost use Rattle.ruling.specs.Ruling.{bit, heldTags, looked, markOf, permitOf};
 ghost use Rattle.ruling.specs.Code.{ofRules, ofRuling};
 
 // Which of the tags a list holds, bit 0's first.
-pub fn held(l: Rules) -> [bool; 16]
-    ensures { λ r. ⌜ r ≡ held (ofRules l) ⌝ }
+pub(crate) fn held_tags(l: Rules) -> [bool; 16]
+    ensures { λ r. ⌜ r ≡ heldTags (ofRules l) ⌝ }
 {
-    let purpose = l.purpose;
-    let algorithm = l.algorithm;
-    let padding = l.padding;
-    let digest = l.digest;
-    let size = l.size;
-    let active = l.active;
-    let origination = l.origination;
-    let usage = l.usage;
-    let auth = l.auth;
-    let timeout = l.timeout;
-    let limit = l.limit;
     [
-        purpose.there,
-        algorithm.there,
-        padding.there,
-        digest.there,
-        size.there,
-        active.there,
-        origination.there,
-        usage.there,
-        auth.there,
-        timeout.there,
+        l.purpose.there,
+        l.algorithm.there,
+        l.padding.there,
+        l.digest.there,
+        l.key_size.there,
+        l.active.there,
+        l.origination.there,
+        l.usage.there,
+        l.auth_type.there,
+        l.auth_timeout.there,
         l.unlocked,
         l.presence,
         l.confirmation,
-        l.early,
-        limit.there,
-        l.noauth,
+        l.early_boot,
+        l.use_limit.there,
+        l.no_auth,
     ]
 }
 
 // Which of them were looked at, by the purpose, the algorithm, the padding, and whether either list has 504.
-pub fn looked(p: u64, a: u64, m: u64, auth: bool) -> [bool; 16]
+pub(crate) fn looked(p: u64, a: u64, m: u64, auth: bool) -> [bool; 16]
     ensures { λ r. ⌜ r ≡ looked p a m auth ⌝ }
 {
     let padding = looks_at_padding(p);
     let digest = looks_at_digest(p, m);
-    let size = looks_at_key_size(p, a, m);
+    let key_size = looks_at_key_size(p, a, m);
     let signed = signs(p);
     [
         true,
         true,
         padding,
         digest,
-        size,
+        key_size,
         true,
         signed,
         !signed,
@@ -86,7 +75,7 @@ fn joined(mark: u16, lower: bool) -> u16
 }
 
 // "A bit is set exactly when that list holds the tag and it was looked at".
-pub fn mark_of(tags: [bool; 16], asked: [bool; 16]) -> u16
+pub(crate) fn mark_of(tags: [bool; 16], asked: [bool; 16]) -> u16
     ensures { λ m. ⌜ m ≡ markOf tags asked ⌝ }
 {
     let mut mark: u16 = 0;
@@ -99,10 +88,10 @@ pub fn mark_of(tags: [bool; 16], asked: [bool; 16]) -> u16
 }
 
 // "If either level is Software, the hardware bits join the software mark and the hardware mark is 0".
-pub fn permit(level: u32, keymint: u32, hardware: u16, software: u16) -> Ruling
-    ensures { λ r. ⌜ ofRuling r ≡ got (permitOf level keymint hardware software) ⌝ }
+pub(crate) fn permit(level: u32, keymint_level: u32, hardware: u16, software: u16) -> Ruling
+    ensures { λ r. ⌜ ofRuling r ≡ got (permitOf level «keymint_level» hardware software) ⌝ }
 {
-    if (level == 0) | (keymint == 0) {
+    if (level == 0) | (keymint_level == 0) {
         let both = hardware | software;
         return Ruling::Permit {
             hardware: 0,

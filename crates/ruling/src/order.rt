@@ -31,32 +31,22 @@ fn shape_refusal(s: Rules, h: Rules, q: Request) -> u8
     if !checks::known_purpose(p) {
         return PURPOSE_UNKNOWN;
     }
-    let sp = s.purpose;
-    let hp = h.purpose;
-    if checks::purpose_refused(p, sp, hp) {
+    if checks::purpose_refused(p, s.purpose, h.purpose) {
         return PURPOSE_NOT_ALLOWED;
     }
-    let sa = s.algorithm;
-    let ha = h.algorithm;
-    let a = checks::agreed(sa, ha);
+    let a = checks::agreed(s.algorithm, h.algorithm);
     if !checks::algorithm_fits(p, a) {
         return ALGORITHM_UNFIT;
     }
     let m = q.padding;
-    let sm = s.padding;
-    let hm = h.padding;
-    if checks::padding_refused(p, a, m, sm, hm) {
+    if checks::padding_refused(p, a, m, s.padding, h.padding) {
         return PADDING_NOT_ALLOWED;
     }
     let d = q.digest;
-    let sd = s.digest;
-    let hd = h.digest;
-    if checks::digest_refused(p, a, m, d, sd, hd) {
+    if checks::digest_refused(p, a, m, d, s.digest, h.digest) {
         return DIGEST_NOT_ALLOWED;
     }
-    let sk = s.size;
-    let hk = h.size;
-    if checks::key_size_refused(p, a, m, d, sk, hk) {
+    if checks::key_size_refused(p, a, m, d, s.key_size, h.key_size) {
         return KEY_TOO_SMALL;
     }
     0
@@ -68,18 +58,12 @@ fn date_refusal(s: Rules, h: Rules, q: Request) -> u8
 {
     let p = q.purpose;
     let clock = q.clock;
-    let sa = s.active;
-    let ha = h.active;
-    let so = s.origination;
-    let ho = h.origination;
-    let su = s.usage;
-    let hu = h.usage;
-    let se = checks::expiry(p, so, su);
-    let he = checks::expiry(p, ho, hu);
-    if checks::clock_refused(clock, q.floor, sa, ha, se, he) {
+    let se = checks::expiry(p, s.origination, s.usage);
+    let he = checks::expiry(p, h.origination, h.usage);
+    if checks::clock_refused(clock, q.floor, s.active, h.active, se, he) {
         return CLOCK_BELOW_FLOOR;
     }
-    if checks::active_refused(clock, sa, ha) {
+    if checks::active_refused(clock, s.active, h.active) {
         return NOT_YET_ACTIVE;
     }
     if checks::expiry_refused(clock, se, he) {
@@ -93,25 +77,23 @@ fn token_refusal(s: Rules, h: Rules, q: Request) -> u8
     ensures { λ n. ⌜ n ≡ firstRefusing (tokenChecks (ofRules s) (ofRules h) q) ⌝ }
 {
     let token = q.token;
-    let sa = s.auth;
-    let ha = h.auth;
-    if checks::auth_missing(s.noauth, h.noauth, sa, ha) {
+    let sn = s.no_auth;
+    let hn = h.no_auth;
+    if checks::auth_missing(sn, hn, s.auth_type, h.auth_type) {
         return NO_AUTH_RULE;
     }
-    if checks::token_refused(token.there, token.kinds, sa, ha) {
+    if checks::token_refused(token.there, token.kinds, s.auth_type, h.auth_type) {
         return TOKEN_UNFIT;
     }
-    let st = s.timeout;
-    let ht = h.timeout;
     if checks::fresh_refused(
         q.uptime,
         token.time,
         q.handle,
         token.challenge,
-        sa,
-        ha,
-        st,
-        ht,
+        s.auth_type,
+        h.auth_type,
+        s.auth_timeout,
+        h.auth_timeout,
     ) {
         return TOKEN_NOT_FRESH;
     }
@@ -131,19 +113,17 @@ fn device_refusal(s: Rules, h: Rules, q: Request) -> u8
     if checks::null_refused(s.confirmation, h.confirmation, !q.confirmed) {
         return NOT_CONFIRMED;
     }
-    if checks::null_refused(s.early, h.early, q.booted) {
+    if checks::null_refused(s.early_boot, h.early_boot, q.early_boot_over) {
         return EARLY_BOOT_OVER;
     }
-    let sl = s.limit;
-    let hl = h.limit;
-    if checks::uses_refused(q.uses, sl, hl) {
+    if checks::uses_refused(q.uses, s.use_limit, h.use_limit) {
         return USED_UP;
     }
     0
 }
 
 // 30 to 46.
-pub fn first_refusal(s: Rules, h: Rules, q: Request) -> u8
+pub(crate) fn first_refusal(s: Rules, h: Rules, q: Request) -> u8
     ensures { λ n. ⌜ n ≡ firstRefusing (checks (ofRules s) (ofRules h) q) ⌝ }
 {
     let shape = shape_refusal(s, h, q);

@@ -22,7 +22,6 @@ pub struct Request {
     pub locked: bool,
     pub present: bool,
     pub confirmed: bool,
-    // "early boot over"
-    pub booted: bool,
+    pub early_boot_over: bool,
     pub uses: u64,
 }

@@ -102,7 +102,7 @@ requestOf w = record {
   locked = isYes (getD w 11 0);
   present = isYes (getD w 12 0);
   confirmed = isYes (getD w 13 0);
-  booted = isYes (getD w 14 0);
+  «early_boot_over» = isYes (getD w 14 0);
   uses = getD w 15 0;
 }
 

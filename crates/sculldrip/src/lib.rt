@@ -128,7 +128,7 @@ fn request_of(words: &[u64]) -> Request
         locked: words[11] != 0,
         present: words[12] != 0,
         confirmed: words[13] != 0,
-        booted: words[14] != 0,
+        early_boot_over: words[14] != 0,
         uses: words[15],
     }
 }

@@ -22,7 +22,7 @@ ruled-requires c κs = search needs
 returns-2 : tie.Need-returns-2
 returns-2 c =
     let r = c .before .before in
-    let w = r .before .before .before .before .before in
+    let w = r .before in
     rule-by-lists _ _ _ (w .before .well-shaped .ensures) (w .if1 .left) _ _ (r .rules-of .ensures) (c .before .rules-of2 .ensures) _ (c .ruled .ensures)
 
 pub rule-spec : {M : Type 1} → statement M

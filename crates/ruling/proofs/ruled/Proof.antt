@@ -13,14 +13,14 @@ returns c = ruled-refused _ _ _ _ _ _ (c .before .first-refusal .ensures) (c .if
 looked-at-requires : tie.Need-looked-at-requires
 looked-at-requires c κs = search needs
 
-held-requires : tie.Need-held-requires
-held-requires c κs = search needs
+held-tags-requires : tie.Need-held-tags-requires
+held-tags-requires c κs = search needs
 
 mark-of-requires : tie.Need-mark-of-requires
 mark-of-requires c κs = search needs
 
-held-requires-2 : tie.Need-held-requires-2
-held-requires-2 c κs = search needs
+held-tags-requires-2 : tie.Need-held-tags-requires-2
+held-tags-requires-2 c κs = search needs
 
 mark-of-requires-2 : tie.Need-mark-of-requires-2
 mark-of-requires-2 c κs = search needs
@@ -33,7 +33,7 @@ returns-2 c =
     let m = c .before .before .before in
     let l = m .before .before in
     let n = l .before in
-    ruled-permitted _ _ _ _ _ _ (n .before .first-refusal .ensures) (n .if1 .left) _ _ _ (l .looked-at .ensures) (m .before .held .ensures) (c .before .before .held2 .ensures) _ _ (m .mark-of .ensures) (c .before .mark-of2 .ensures) _ (c .permit .ensures)
+    ruled-permitted _ _ _ _ _ _ (n .before .first-refusal .ensures) (n .if1 .left) _ _ _ (l .looked-at .ensures) (m .before .held-tags .ensures) (c .before .before .held-tags2 .ensures) _ _ (m .mark-of .ensures) (c .before .mark-of2 .ensures) _ (c .permit .ensures)
 
 pub ruled-spec : {M : Type 1} → statement M
 ruled-spec =
@@ -42,9 +42,9 @@ ruled-spec =
     first-refusal-requires
     returns
     looked-at-requires
-    held-requires
+    held-tags-requires
     mark-of-requires
-    held-requires-2
+    held-tags-requires-2
     mark-of-requires-2
     permit-requires
     returns-2)

@@ -7,11 +7,11 @@ use Rattle.ruling.proofs.checks.fresh_refused.Tie as tie
 returns : tie.Need-returns
 returns c = search fresh-unasked
 
-timeout-allows-requires : tie.Need-timeout-allows-requires
-timeout-allows-requires c κs = search needs
+auth-timeout-allows-requires : tie.Need-auth-timeout-allows-requires
+auth-timeout-allows-requires c κs = search needs
 
-timeout-allows-requires-2 : tie.Need-timeout-allows-requires-2
-timeout-allows-requires-2 c κs = search needs
+auth-timeout-allows-requires-2 : tie.Need-auth-timeout-allows-requires-2
+auth-timeout-allows-requires-2 c κs = search needs
 
 returns-2 : tie.Need-returns-2
 returns-2 c = search fresh-timed
@@ -22,4 +22,4 @@ returns-3 c = search fresh-bound
 pub fresh-refused-spec : {M : Type 1} → statement M
 fresh-refused-spec =
     tie.close
-    (tie.spec returns timeout-allows-requires timeout-allows-requires-2 returns-2 returns-3)
+    (tie.spec returns auth-timeout-allows-requires auth-timeout-allows-requires-2 returns-2 returns-3)

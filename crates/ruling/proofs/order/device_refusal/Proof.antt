@@ -54,7 +54,7 @@ uses-refused-requires c κs = search needs
 returns-5 : tie.Need-returns-5
 unfolding deviceChecks
 returns-5 c =
-    let c4 = c .before .before .before .before in
+    let c4 = c .before .before in
     let c3 = c4 .before .before in
     let c2 = c3 .before .before .before in
     let c1 = c2 .before .before .before in
@@ -67,7 +67,7 @@ returns-5 c =
 returns-6 : tie.Need-returns-6
 unfolding deviceChecks
 returns-6 c =
-    let c4 = c .before .before .before .before in
+    let c4 = c .before .before in
     let c3 = c4 .before .before in
     let c2 = c3 .before .before .before in
     let c1 = c2 .before .before .before in

@@ -20,7 +20,7 @@ purpose-refused-requires c κs = search needs
 returns-2 : tie.Need-returns-2
 unfolding shapeChecks
 returns-2 c =
-    let c1 = c .before .before .before .before in
+    let c1 = c .before .before in
     passes _ _ (ap not (c1 .before .known-purpose .ensures)) (c1 .if1 .left)
     (refuses _ _ (c .before .purpose-refused .ensures) (c .if2 .taken))
 
@@ -33,8 +33,8 @@ algorithm-fits-requires c κs = search needs
 returns-3 : tie.Need-returns-3
 unfolding shapeChecks
 returns-3 c =
-    let c2 = c .before .before .before .before .before in
-    let c1 = c2 .before .before .before .before in
+    let c2 = c .before .before .before in
+    let c1 = c2 .before .before in
     passes _ _ (ap not (c1 .before .known-purpose .ensures)) (c1 .if1 .left)
     (passes _ _ (c2 .before .purpose-refused .ensures) (c2 .if2 .left)
     (refuses _ _ (rw (← c .before .before .agreed .ensures) (ap not (c .before .algorithm-fits .ensures))) (c .if3 .taken)))
@@ -45,9 +45,9 @@ padding-refused-requires c κs = search needs
 returns-4 : tie.Need-returns-4
 unfolding shapeChecks
 returns-4 c =
-    let c3 = c .before .before .before .before in
-    let c2 = c3 .before .before .before .before .before in
-    let c1 = c2 .before .before .before .before in
+    let c3 = c .before .before in
+    let c2 = c3 .before .before .before in
+    let c1 = c2 .before .before in
     passes _ _ (ap not (c1 .before .known-purpose .ensures)) (c1 .if1 .left)
     (passes _ _ (c2 .before .purpose-refused .ensures) (c2 .if2 .left)
     (passes _ _ (rw (← c3 .before .before .agreed .ensures) (ap not (c3 .before .algorithm-fits .ensures))) (c3 .if3 .left)
@@ -59,10 +59,10 @@ digest-refused-requires c κs = search needs
 returns-5 : tie.Need-returns-5
 unfolding shapeChecks
 returns-5 c =
-    let c4 = c .before .before .before .before in
-    let c3 = c4 .before .before .before .before in
-    let c2 = c3 .before .before .before .before .before in
-    let c1 = c2 .before .before .before .before in
+    let c4 = c .before .before in
+    let c3 = c4 .before .before in
+    let c2 = c3 .before .before .before in
+    let c1 = c2 .before .before in
     passes _ _ (ap not (c1 .before .known-purpose .ensures)) (c1 .if1 .left)
     (passes _ _ (c2 .before .purpose-refused .ensures) (c2 .if2 .left)
     (passes _ _ (rw (← c3 .before .before .agreed .ensures) (ap not (c3 .before .algorithm-fits .ensures))) (c3 .if3 .left)
@@ -75,11 +75,11 @@ key-size-refused-requires c κs = search needs
 returns-6 : tie.Need-returns-6
 unfolding shapeChecks
 returns-6 c =
-    let c5 = c .before .before .before .before in
-    let c4 = c5 .before .before .before .before in
-    let c3 = c4 .before .before .before .before in
-    let c2 = c3 .before .before .before .before .before in
-    let c1 = c2 .before .before .before .before in
+    let c5 = c .before .before in
+    let c4 = c5 .before .before in
+    let c3 = c4 .before .before in
+    let c2 = c3 .before .before .before in
+    let c1 = c2 .before .before in
     passes _ _ (ap not (c1 .before .known-purpose .ensures)) (c1 .if1 .left)
     (passes _ _ (c2 .before .purpose-refused .ensures) (c2 .if2 .left)
     (passes _ _ (rw (← c3 .before .before .agreed .ensures) (ap not (c3 .before .algorithm-fits .ensures))) (c3 .if3 .left)
@@ -90,11 +90,11 @@ returns-6 c =
 returns-7 : tie.Need-returns-7
 unfolding shapeChecks
 returns-7 c =
-    let c5 = c .before .before .before .before in
-    let c4 = c5 .before .before .before .before in
-    let c3 = c4 .before .before .before .before in
-    let c2 = c3 .before .before .before .before .before in
-    let c1 = c2 .before .before .before .before in
+    let c5 = c .before .before in
+    let c4 = c5 .before .before in
+    let c3 = c4 .before .before in
+    let c2 = c3 .before .before .before in
+    let c1 = c2 .before .before in
     passes _ _ (ap not (c1 .before .known-purpose .ensures)) (c1 .if1 .left)
     (passes _ _ (c2 .before .purpose-refused .ensures) (c2 .if2 .left)
     (passes _ _ (rw (← c3 .before .before .agreed .ensures) (ap not (c3 .before .algorithm-fits .ensures))) (c3 .if3 .left)

@@ -28,7 +28,7 @@ fresh-refused-requires c κs = search needs
 returns-3 : tie.Need-returns-3
 unfolding tokenChecks
 returns-3 c =
-    let c2 = c .before .before .before .before in
+    let c2 = c .before .before in
     let c1 = c2 .before .before in
     passes _ _ (c1 .before .auth-missing .ensures) (c1 .if1 .left)
     (passes _ _ (c2 .before .token-refused .ensures) (c2 .if2 .left)
@@ -37,7 +37,7 @@ returns-3 c =
 returns-4 : tie.Need-returns-4
 unfolding tokenChecks
 returns-4 c =
-    let c2 = c .before .before .before .before in
+    let c2 = c .before .before in
     let c1 = c2 .before .before in
     passes _ _ (c1 .before .auth-missing .ensures) (c1 .if1 .left)
     (passes _ _ (c2 .before .token-refused .ensures) (c2 .if2 .left)

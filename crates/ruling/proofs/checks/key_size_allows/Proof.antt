@@ -1,8 +1,8 @@
--- `ruling::checks::size_allows` meets its contract: one bit more than 2D+1 octets are 2D+2 octets. Assumes nothing.
+-- `ruling::checks::key_size_allows` meets its contract: one bit more than 2D+1 octets are 2D+2 octets. Assumes nothing.
 use Rattle.ruling.proofs.Checking.{size-enough}
 use borrow.Author.Needs.{needs}
-use Rattle.ruling.proofs.checks.size_allows.Statement.{statement}
-use Rattle.ruling.proofs.checks.size_allows.Tie as tie
+use Rattle.ruling.proofs.checks.key_size_allows.Statement.{statement}
+use Rattle.ruling.proofs.checks.key_size_allows.Tie as tie
 
 digest-bytes-requires : tie.Need-digest-bytes-requires
 digest-bytes-requires c κs = search needs
@@ -21,6 +21,6 @@ returns c =
     let d = c .before .before in
     size-enough (d .before .args .t .there) (d .before .args .t .value) (d .before .args .d) (d .digest-bytes .result) (d .digest-bytes .ensures .0)
 
-pub size-allows-spec : {M : Type 1} → statement M
-size-allows-spec =
+pub key-size-allows-spec : {M : Type 1} → statement M
+key-size-allows-spec =
     tie.close (tie.spec digest-bytes-requires mul-whole add-whole mul-result returns)

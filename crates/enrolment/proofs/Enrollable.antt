@@ -1,0 +1,155 @@
+-- The theorems of specs/Statements.antt, guard by guard. Assumes nothing.
+use mathlib.Core.Path.{_≡_, refl, sym, ap, ap₂, subst, _∙_}
+use mathlib.Core.Logic.{_⊎_, inl, inr}
+use mathlib.Core.Bool.{Bool, true, false, not, _&&_, _||_}
+use mathlib.Core.Option.{Option, none, some}
+use mathlib.Core.List.{List, [], _∷_}
+use Prim.Native.Nat.{ℕ, _≤_}
+use native.Mathlib.Omega.{arith}
+use lib.ListN.{length}
+use lib.Dec.{T, eqb, leb, eqb→eq, eqb-refl, leb→le, le→leb, not-T}
+use lib.Ieee.Bits.{is-true}
+use Rattle.answer.specs.Answer.{Answer, got, refused, guard}
+use Rattle.answer.proofs.Answer.{refused-got, guard-yes, guard-case}
+use Rattle.answer.proofs.Logic.{and-left, and-right, and-both, not-equal}
+use Rattle.schema.specs.Content.{Root, Value, num, nul, oct, nums, trust, Field}
+use Rattle.records.specs.Content.{partOf, fieldsOf}
+use Rattle.records.specs.Fields.{fieldValue}
+use Rattle.records.specs.Shape.{wellShapedRecord}
+use Rattle.records.specs.Parts.{partsInside}
+use Rattle.records.specs.declared.Record.{Record}
+use Rattle.enrolment.specs.Enrolled.{sameOctets, challengeMet, eitherSoftware, rootIs, numberIs, hasRoot, bootLocked, bootVerified, generated, judged, enrolled}
+use Rattle.enrolment.specs.Statements.{Enrollable, EnrolledExactly, RefusalNumbers, HardwareAlone}
+
+-- ---- what the tests say
+
+same-is : (xs ys : List ℕ) → T (sameOctets xs ys) → xs ≡ ys
+unfolding sameOctets
+same-is [] [] t = refl
+same-is [] (y ∷ ys) t = absurd t
+same-is (x ∷ xs) [] t = absurd t
+same-is (x ∷ xs) (y ∷ ys) t = ap₂ _∷_ (eqb→eq x y (and-left (eqb x y) (sameOctets xs ys) t)) (same-is xs ys (and-right (eqb x y) (sameOctets xs ys) t))
+
+same-itself : (xs : List ℕ) → T (sameOctets xs xs)
+unfolding sameOctets
+same-itself [] = tt
+same-itself (x ∷ xs) = and-both (eqb x x) (sameOctets xs xs) (eqb-refl x) (same-itself xs)
+
+neither : (a b : Bool) → T (not (a || b)) → T (not a) × T (not b)
+neither true b t = absurd t
+neither false b t = (tt, t)
+
+not-either : (a b : Bool) → T (not a) → T (not b) → T (not (a || b))
+not-either true b s t = absurd s
+not-either false b s t = t
+
+root-found : (f : Root → Bool) (o : Option Value) → T (rootIs f o) → (r : Root) × (o ≡ some (trust r)) × T (f r)
+unfolding rootIs
+root-found f none t = absurd t
+root-found f (some (num n)) t = absurd t
+root-found f (some nul) t = absurd t
+root-found f (some (oct bs)) t = absurd t
+root-found f (some (nums l)) t = absurd t
+root-found f (some (trust r)) t = (r, refl, t)
+
+number-found : (f : ℕ → Bool) (o : Option Value) → T (numberIs f o) → (n : ℕ) × (o ≡ some (num n)) × T (f n)
+unfolding numberIs
+number-found f none t = absurd t
+number-found f (some (num n)) t = (n, refl, t)
+number-found f (some nul) t = absurd t
+number-found f (some (oct bs)) t = absurd t
+number-found f (some (nums l)) t = absurd t
+number-found f (some (trust r)) t = absurd t
+
+-- ---- yes
+
+module _ (r : Record) (s expected : List ℕ) where
+  abbrev fields : List Field
+  fields = fieldsOf (r .hardware) s
+
+  abbrev challenge : List ℕ
+  challenge = partOf s (r .challenge)
+
+  to-enrollable : enrolled r s expected ≡ got tt → Enrollable r s expected
+  unfolding enrolled judged challengeMet eitherSoftware hasRoot bootLocked bootVerified generated rootIs
+  to-enrollable e =
+      guard-case _ _ _ _ e λ shaped e₁.
+      guard-case _ _ _ _ e₁ λ inside e₂.
+      guard-case _ _ _ _ e₂ λ met e₃.
+      guard-case _ _ _ _ e₃ λ above e₄.
+      guard-case _ _ _ _ e₄ λ rooted e₅.
+      guard-case _ _ _ _ e₅ λ locked e₆.
+      guard-case _ _ _ _ e₆ λ verified e₇.
+      guard-case _ _ _ _ e₇ λ origin e₈.
+      let levels = neither (eqb (r .attestation .level) 0) (eqb (r .keymint .level) 0) above in
+      let rest = and-right (leb 1 (length expected)) (leb (length expected) 128 && sameOctets expected challenge) met in
+      let found = root-found (λ x. x .locked) (fieldValue fields 704) locked in
+      let number = number-found (λ n. eqb n 0) (fieldValue fields 702) origin in
+      record {
+        shaped = shaped;
+        inside = inside;
+        given = leb→le 1 (length expected) (and-left (leb 1 (length expected)) (leb (length expected) 128 && sameOctets expected challenge) met);
+        few = leb→le (length expected) 128 (and-left (leb (length expected) 128) (sameOctets expected challenge) rest);
+        challenge = same-is expected challenge (and-right (leb (length expected) 128) (sameOctets expected challenge) rest);
+        level = not-equal (r .attestation .level) 0 (levels .0);
+        keymintLevel = not-equal (r .keymint .level) 0 (levels .1);
+        root = found .0;
+        rooted = found .1;
+        locked = is-true (found .0 .locked) (found .2);
+        verified = eqb→eq (found .0 .state) 0 (rw (found .1) at verified);
+        generated = number .1 ∙ ap (λ (n : ℕ). some (num n)) (eqb→eq (number .0) 0 (number .2));
+      }
+
+  from-enrollable : Enrollable r s expected → enrolled r s expected ≡ got tt
+  unfolding enrolled judged challengeMet eitherSoftware hasRoot bootLocked bootVerified generated rootIs numberIs
+  from-enrollable w =
+      let met : T (challengeMet expected challenge) =
+      and-both (leb 1 (length expected)) (leb (length expected) 128 && sameOctets expected challenge) (le→leb 1 (length expected) (w .given))
+      (and-both (leb (length expected) 128) (sameOctets expected challenge) (le→leb (length expected) 128 (w .few)) (rw (← w .challenge) (same-itself expected))) in
+      let above : T (not (eitherSoftware (r .attestation .level) (r .keymint .level))) =
+      not-either (eqb (r .attestation .level) 0) (eqb (r .keymint .level) 0) (not-T (eqb (r .attestation .level) 0) (λ t. w .level (eqb→eq (r .attestation .level) 0 t)))
+      (not-T (eqb (r .keymint .level) 0) (λ t. w .keymintLevel (eqb→eq (r .keymint .level) 0 t))) in
+      guard-yes (wellShapedRecord r) 20 0 _ (w .shaped) ∙ guard-yes (partsInside r (length s)) 20 0 _ (w .inside)
+      ∙ guard-yes _ 50 0 _ met ∙ guard-yes _ 51 0 _ above
+      ∙ guard-yes (hasRoot fields) 52 0 _ (rw (w .rooted) tt) ∙ guard-yes (bootLocked fields) 53 0 _ (rw (w .rooted, w .locked) tt)
+      ∙ guard-yes (bootVerified fields) 54 0 _ (rw (w .rooted, w .verified) tt) ∙ guard-yes (generated fields) 55 0 _ (rw (w .generated) tt)
+
+pub enrolled-exactly : EnrolledExactly
+enrolled-exactly r s expected = (to-enrollable r s expected, from-enrollable r s expected)
+
+-- ---- no, by which number
+
+abbrev Numbered : ℕ → Type 0
+Numbered n = (n ≡ 20) ⊎ ((50 ≤ n) × (n ≤ 55))
+
+-- each refusal of the answer has such a number, and place 0
+record Refuses (a : Answer (Unit {0})) : Type 0 where
+  says : (n place : ℕ) → a ≡ refused n place → (place ≡ 0) × Numbered n
+
+then : (b : Bool) (k : ℕ) (a : Answer (Unit {0})) → Numbered k → Refuses a → Refuses (guard b k 0 a)
+unfolding guard
+then true k a x w = w
+then false k a x w = record { says = λ n place e. (cc, subst Numbered (cc) x) }
+
+pub refusal-numbers : RefusalNumbers
+unfolding enrolled judged
+refusal-numbers r s expected =
+    then _ 20 _ (inl refl)
+    (then _ 20 _ (inl refl)
+    (then _ 50 _ (inr (omega arith, omega arith))
+    (then _ 51 _ (inr (omega arith, omega arith))
+    (then _ 52 _ (inr (omega arith, omega arith))
+    (then _ 53 _ (inr (omega arith, omega arith))
+    (then _ 54 _ (inr (omega arith, omega arith))
+    (then _ 55 _ (inr (omega arith, omega arith))
+    (record { says = λ n place e. absurd (refused-got (sym e)) })))))))) .says
+
+-- ---- past 20
+
+past-20 : (r : Record) (s expected : List ℕ) → T (wellShapedRecord r) → T (partsInside r (length s))
+    → enrolled r s expected ≡ judged (r .attestation .level) (r .keymint .level) (fieldsOf (r .hardware) s) (challengeMet expected (partOf s (r .challenge)))
+unfolding enrolled
+past-20 r s expected t i = guard-yes (wellShapedRecord r) 20 0 _ t ∙ guard-yes (partsInside r (length s)) 20 0 _ i
+
+pub hardware-alone : HardwareAlone
+hardware-alone r r′ s expected q t i u j = past-20 r s expected t i ∙ rw (q .attestation, q .keymint, q .hardware, q .challenge) refl ∙ sym (past-20 r′ s expected u j)
