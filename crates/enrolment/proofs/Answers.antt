@@ -12,7 +12,7 @@ use borrow.Author.Tests.{eq-eqb, ne-eqb, le-leb, lt-leb, not-true, not-false}
 use Rattle.answer.specs.Answer.{Answer, got, refused, guard, pick}
 use Rattle.answer.proofs.Logic.{by-le}
 use Rattle.schema.specs.Table.{rows}
-use Rattle.schema.specs.Content.{Root, num, trust}
+use Rattle.schema.specs.Content.{RootWith, num, trust, Place, placeAt}
 use Rattle.records.specs.Equal.{presentAt}
 use Rattle.records.specs.Content.{partOf, rootOf, valueAt, fieldsOf}
 use Rattle.records.specs.Fields.{fieldValue}
@@ -81,7 +81,7 @@ same-all (x ∷ xs) (y ∷ ys) (suc n) l h s = rw (eq-eqb x y (s .at 0 (omega ar
 
 -- ---- what the hardware list says, by its rows
 
-root-at : (f : Root → Bool) (b : Bool) (r : Root) → rootIs f (pick b (some (trust r)) none) ≡ b && f r
+root-at : (f : RootWith Place → Bool) (b : Bool) (r : RootWith Place) → rootIs f (pick b (some (trust r)) none) ≡ b && f r
 unfolding rootIs pick
 root-at f true r = refl
 root-at f false r = refl
@@ -108,27 +108,27 @@ module _ {A : Type 0} (b : Bool) (n p : ℕ) (m : Answer A) where
   unfolding guard
   passes e f = rw (not-false b e) f
 
-module _ (l : FieldList) (s : List ℕ) where
+module _ (l : FieldList) where
   -- rows 24 and 26 are those of 702 and 704
-  origin-row : (f : ℕ → Bool) → numberIs f (fieldValue (fieldsOf l s) 702) ≡ presentAt l 24 && f (getD (l .values) 24 0)
+  origin-row : (f : ℕ → Bool) → numberIs f (fieldValue (fieldsOf l placeAt) 702) ≡ presentAt l 24 && f (getD (l .values) 24 0)
   unfolding valueAt rows
-  origin-row f = ap (numberIs f) (row-value l s 24 (lit< tt)) ∙ number-at f (presentAt l 24) (getD (l .values) 24 0)
+  origin-row f = ap (numberIs f) (row-value l placeAt 24 (lit< tt)) ∙ number-at f (presentAt l 24) (getD (l .values) 24 0)
 
-  root-row : (f : Root → Bool) → rootIs f (fieldValue (fieldsOf l s) 704) ≡ presentAt l 26 && f (rootOf s (l .root))
+  root-row : (f : RootWith Place → Bool) → rootIs f (fieldValue (fieldsOf l placeAt) 704) ≡ presentAt l 26 && f (rootOf placeAt (l .root))
   unfolding valueAt rows
-  root-row f = ap (rootIs f) (row-value l s 26 (lit< tt)) ∙ root-at f (presentAt l 26) (rootOf s (l .root))
+  root-row f = ap (rootIs f) (row-value l placeAt 26 (lit< tt)) ∙ root-at f (presentAt l 26) (rootOf placeAt (l .root))
 
-  pub not-generated : not (presentAt l 24) ≡ true → false ≡ generated (fieldsOf l s)
+  pub not-generated : not (presentAt l 24) ≡ true → false ≡ generated (fieldsOf l placeAt)
   unfolding generated
   not-generated n = rw (origin-row (λ n. eqb n 0), not-true (presentAt l 24) n) refl
 
-  pub origin-read : not (presentAt l 24) ≡ false → eqb (getD (l .values) 24 0) 0 ≡ generated (fieldsOf l s)
+  pub origin-read : not (presentAt l 24) ≡ false → eqb (getD (l .values) 24 0) 0 ≡ generated (fieldsOf l placeAt)
   unfolding generated
   origin-read n = rw (origin-row (λ n. eqb n 0), not-false (presentAt l 24) n) refl
 
   module _ (level keymintLevel : ℕ) (met : Bool) where
     abbrev from-55 : Answer (Unit {0})
-    from-55 = guard (generated (fieldsOf l s)) 55 0 (got tt)
+    from-55 = guard (generated (fieldsOf l placeAt)) 55 0 (got tt)
 
     abbrev from-54 : Answer (Unit {0})
     from-54 = guard (eqb (l .root .state) 0) 54 0 from-55
@@ -143,7 +143,7 @@ module _ (l : FieldList) (s : List ℕ) where
     from-51 = guard (not (eitherSoftware level keymintLevel)) 51 0 from-52
 
     abbrev answer : Answer (Unit {0})
-    answer = judged level keymintLevel (fieldsOf l s) met
+    answer = judged level keymintLevel (fieldsOf l placeAt) met
 
     by-rows : guard met 50 0 from-51 ≡ answer
     unfolding judged hasRoot bootLocked bootVerified
@@ -182,15 +182,15 @@ module _ (l : FieldList) (s : List ℕ) where
             pub not-verified : (l .root .state ≡ 0 → ⊥) → refused 54 0 ≡ answer
             not-verified g = past-53 (stops (eqb (l .root .state) 0) 54 0 from-55 (rw (ne-eqb (l .root .state) 0 g) refl))
 
-            module _ (g : l .root .state ≡ 0) (m : Bool) (q : (s : List ℕ) → m ≡ generated (fieldsOf l s)) where
+            module _ (g : l .root .state ≡ 0) (m : Bool) (q : m ≡ generated (fieldsOf l placeAt)) where
               past-54 : {x : Answer (Unit {0})} → x ≡ from-55 → x ≡ answer
               past-54 h = past-53 (passes (eqb (l .root .state) 0) 54 0 from-55 (rw (eq-eqb (l .root .state) 0 g) refl) h)
 
               pub other-origin : not m ≡ true → refused 55 0 ≡ answer
-              other-origin h = past-54 (stops (generated (fieldsOf l s)) 55 0 (got tt) (rw (q s) at h))
+              other-origin h = past-54 (stops (generated (fieldsOf l placeAt)) 55 0 (got tt) (rw q at h))
 
               pub taken-on : not m ≡ false → got tt ≡ answer
-              taken-on h = past-54 (passes (generated (fieldsOf l s)) 55 0 (got tt) (rw (q s) at h) refl)
+              taken-on h = past-54 (passes (generated (fieldsOf l placeAt)) 55 0 (got tt) (rw q at h) refl)
 
 -- ---- the whole
 
@@ -205,6 +205,6 @@ module _ (r : Record) (s expected : List ℕ) where
     part-outside m = rw (← q, not-false b n, ← p, not-true d m) refl
 
     pub is-judged : not d ≡ false → (t : List ℕ) → t ≡ partOf s (r .challenge) → (met : Bool) → met ≡ challengeMet expected t → (a : Answer (Unit {0}))
-        → ((s : List ℕ) → a ≡ judged (r .attestation .level) (r .keymint .level) (fieldsOf (r .hardware) s) met) → a ≡ enrolled r s expected
+        → a ≡ judged (r .attestation .level) (r .keymint .level) (fieldsOf (r .hardware) placeAt) met → a ≡ enrolled r s expected
     unfolding enrolled guard
-    is-judged m t u met v a e = rw (← q, not-false b n, ← p, not-false d m, ← u, ← v) (e s)
+    is-judged m t u met v a e = rw (← q, not-false b n, ← p, not-false d m, ← u, ← v) e

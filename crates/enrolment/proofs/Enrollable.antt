@@ -12,7 +12,7 @@ use lib.Ieee.Bits.{is-true}
 use Rattle.answer.specs.Answer.{Answer, got, refused, guard}
 use Rattle.answer.proofs.Answer.{refused-got, guard-yes, guard-case}
 use Rattle.answer.proofs.Logic.{and-left, and-right, and-both, not-equal}
-use Rattle.schema.specs.Content.{Root, Value, num, nul, oct, nums, trust, Field}
+use Rattle.schema.specs.Content.{RootWith, ValueWith, num, nul, oct, nums, trust, FieldWith, Place, placeAt}
 use Rattle.records.specs.Content.{partOf, fieldsOf}
 use Rattle.records.specs.Fields.{fieldValue}
 use Rattle.records.specs.Shape.{wellShapedRecord}
@@ -43,7 +43,7 @@ not-either : (a b : Bool) → T (not a) → T (not b) → T (not (a || b))
 not-either true b s t = absurd s
 not-either false b s t = t
 
-root-found : (f : Root → Bool) (o : Option Value) → T (rootIs f o) → (r : Root) × (o ≡ some (trust r)) × T (f r)
+root-found : (f : RootWith Place → Bool) (o : Option (ValueWith Place)) → T (rootIs f o) → (r : RootWith Place) × (o ≡ some (trust r)) × T (f r)
 unfolding rootIs
 root-found f none t = absurd t
 root-found f (some (num n)) t = absurd t
@@ -52,7 +52,7 @@ root-found f (some (oct bs)) t = absurd t
 root-found f (some (nums l)) t = absurd t
 root-found f (some (trust r)) t = (r, refl, t)
 
-number-found : (f : ℕ → Bool) (o : Option Value) → T (numberIs f o) → (n : ℕ) × (o ≡ some (num n)) × T (f n)
+number-found : (f : ℕ → Bool) (o : Option (ValueWith Place)) → T (numberIs f o) → (n : ℕ) × (o ≡ some (num n)) × T (f n)
 unfolding numberIs
 number-found f none t = absurd t
 number-found f (some (num n)) t = (n, refl, t)
@@ -64,8 +64,8 @@ number-found f (some (trust r)) t = absurd t
 -- ---- yes
 
 module _ (r : Record) (s expected : List ℕ) where
-  abbrev fields : List Field
-  fields = fieldsOf (r .hardware) s
+  abbrev fields : List (FieldWith Place)
+  fields = fieldsOf (r .hardware) placeAt
 
   abbrev challenge : List ℕ
   challenge = partOf s (r .challenge)
@@ -147,7 +147,7 @@ refusal-numbers r s expected =
 -- ---- past 20
 
 past-20 : (r : Record) (s expected : List ℕ) → T (wellShapedRecord r) → T (partsInside r (length s))
-    → enrolled r s expected ≡ judged (r .attestation .level) (r .keymint .level) (fieldsOf (r .hardware) s) (challengeMet expected (partOf s (r .challenge)))
+    → enrolled r s expected ≡ judged (r .attestation .level) (r .keymint .level) (fieldsOf (r .hardware) placeAt) (challengeMet expected (partOf s (r .challenge)))
 unfolding enrolled
 past-20 r s expected t i = guard-yes (wellShapedRecord r) 20 0 _ t ∙ guard-yes (partsInside r (length s)) 20 0 _ i
 

@@ -8,7 +8,7 @@ use lib.ListN.{length}
 use lib.Dec.{eqb, leb}
 use Rattle.answer.specs.Answer.{Answer, got, refused, guard}
 use Rattle.answer.specs.Refusal.{illShaped, challengeDiffers, softwareLevel, noRootOfTrust, bootUnlocked, bootNotVerified, originNotGenerated}
-use Rattle.schema.specs.Content.{Root, Value, num, nul, oct, nums, trust, Field}
+use Rattle.schema.specs.Content.{RootWith, ValueWith, num, nul, oct, nums, trust, FieldWith, Place, placeAt}
 use Rattle.records.specs.Content.{partOf, fieldsOf}
 use Rattle.records.specs.Fields.{fieldValue}
 use Rattle.records.specs.Shape.{wellShapedRecord}
@@ -34,7 +34,7 @@ eitherSoftware level keymintLevel = eqb level 0 || eqb keymintLevel 0
 -- ---- 52 to 55: what the hardware list says under 704 and 702
 
 -- the field of a list is there and holds such a root of trust
-unfoldable pub rootIs : (Root → Bool) → Option Value → Bool
+unfoldable pub rootIs : (RootWith Place → Bool) → Option (ValueWith Place) → Bool
 rootIs f none = false
 rootIs f (some (num n)) = false
 rootIs f (some nul) = false
@@ -43,7 +43,7 @@ rootIs f (some (nums l)) = false
 rootIs f (some (trust r)) = f r
 
 -- .. and holds such a number
-unfoldable pub numberIs : (ℕ → Bool) → Option Value → Bool
+unfoldable pub numberIs : (ℕ → Bool) → Option (ValueWith Place) → Bool
 numberIs f none = false
 numberIs f (some (num n)) = f n
 numberIs f (some nul) = false
@@ -52,25 +52,25 @@ numberIs f (some (nums l)) = false
 numberIs f (some (trust r)) = false
 
 -- 52: "no 704 in the hardware list"
-unfoldable pub hasRoot : List Field → Bool
+unfoldable pub hasRoot : List (FieldWith Place) → Bool
 hasRoot fs = rootIs (λ r. true) (fieldValue fs 704)
 
 -- 53: "not locked"
-unfoldable pub bootLocked : List Field → Bool
+unfoldable pub bootLocked : List (FieldWith Place) → Bool
 bootLocked fs = rootIs (λ r. r .locked) (fieldValue fs 704)
 
 -- 54: "state not Verified" (0)
-unfoldable pub bootVerified : List Field → Bool
+unfoldable pub bootVerified : List (FieldWith Place) → Bool
 bootVerified fs = rootIs (λ r. eqb (r .state) 0) (fieldValue fs 704)
 
 -- 55: "hardware origin (702) absent or not 0"
-unfoldable pub generated : List Field → Bool
+unfoldable pub generated : List (FieldWith Place) → Bool
 generated fs = numberIs (λ n. eqb n 0) (fieldValue fs 702)
 
 -- ---- the ruling
 
 -- past 20, "of the two lists only the hardware one is read"
-unfoldable pub judged : ℕ → ℕ → List Field → Bool → Answer (Unit {0})
+unfoldable pub judged : ℕ → ℕ → List (FieldWith Place) → Bool → Answer (Unit {0})
 judged level keymintLevel hardware met =
     guard met challengeDiffers 0
     (guard (not (eitherSoftware level keymintLevel)) softwareLevel 0
@@ -85,7 +85,7 @@ unfoldable pub enrolled : Record → List ℕ → List ℕ → Answer (Unit {0})
 enrolled r s expected =
     guard (wellShapedRecord r) illShaped 0
     (guard (partsInside r (length s)) illShaped 0
-    (judged (r .attestation .level) (r .keymint .level) (fieldsOf (r .hardware) s) (challengeMet expected (partOf s (r .challenge)))))
+    (judged (r .attestation .level) (r .keymint .level) (fieldsOf (r .hardware) placeAt) (challengeMet expected (partOf s (r .challenge)))))
 
 -- the code's answer in these terms
 abbrev pub ofEnrolment : Enrolment → Answer (Unit {0})

@@ -9,7 +9,7 @@ use Prim.Native.Nat.{ℕ, _≤_}
 use lib.ListN.{length}
 use lib.Dec.{T}
 use Rattle.answer.specs.Answer.{got, refused}
-use Rattle.schema.specs.Content.{Root, num, trust}
+use Rattle.schema.specs.Content.{RootWith, num, trust, Place, placeAt}
 use Rattle.records.specs.Content.{partOf, fieldsOf}
 use Rattle.records.specs.Fields.{fieldValue}
 use Rattle.records.specs.Shape.{wellShapedRecord}
@@ -30,12 +30,12 @@ pub record Enrollable (r : Record) (s expected : List ℕ) : Type 0 where
   pub level : r .attestation .level ≡ 0 → ⊥
   pub keymintLevel : r .keymint .level ≡ 0 → ⊥
   -- 52 to 54
-  pub root : Root
-  pub rooted : fieldValue (fieldsOf (r .hardware) s) 704 ≡ some (trust root)
+  pub root : RootWith Place
+  pub rooted : fieldValue (fieldsOf (r .hardware) placeAt) 704 ≡ some (trust root)
   pub locked : root .locked ≡ true
   pub verified : root .state ≡ 0
   -- 55
-  pub generated : fieldValue (fieldsOf (r .hardware) s) 702 ≡ some (num 0)
+  pub generated : fieldValue (fieldsOf (r .hardware) placeAt) 702 ≡ some (num 0)
 
 -- "Yes, or the first that holds of": yes exactly where none holds
 abbrev pub EnrolledExactly : Type 0

@@ -13,8 +13,7 @@ use records::octets::part_octets;
 use records::parts::parts_inside;
 use records::shape::well_shaped;
 ghost use mathlib.Core.Path.{_≡_};
-ghost use mathlib.Core.List.{List};
-ghost use Prim.Native.Nat.{ℕ};
+ghost use Rattle.schema.specs.Content.{placeAt};
 ghost use Rattle.records.specs.Content.{fieldsOf};
 ghost use Rattle.enrolment.specs.Enrolled.{sameOctets, challengeMet, generated, judged, enrolled, ofEnrolment};
 
@@ -62,7 +61,7 @@ const ROW_ROOT_OF_TRUST: usize = 26; // 704
 
 // Origin in the hardware list, and 0: the key was made in the device.
 fn generated(hardware: FieldList) -> bool
-    ensures { λ r. ⌜ ((s : List ℕ) → r ≡ generated (fieldsOf hardware s)) ⌝ }
+    ensures { λ r. ⌜ r ≡ generated (fieldsOf hardware placeAt) ⌝ }
 {
     if !hardware.present[ROW_ORIGIN] {
         return false;
@@ -70,9 +69,9 @@ fn generated(hardware: FieldList) -> bool
     hardware.values[ROW_ORIGIN] == 0
 }
 
-// 50 to 55, in order, wherever the octet parts lie. The software list is not asked for.
+// 50 to 55, in order. The software list is not asked for.
 fn judge(level: u32, keymint_level: u32, hardware: FieldList, met: bool) -> Enrolment
-    ensures { λ a. ⌜ ((s : List ℕ) → ofEnrolment a ≡ judged level «keymint_level» (fieldsOf hardware s) met) ⌝ }
+    ensures { λ a. ⌜ ofEnrolment a ≡ judged level «keymint_level» (fieldsOf hardware placeAt) met ⌝ }
 {
     if !met {
         return Enrolment::Refused(CHALLENGE_DIFFERS, 0);

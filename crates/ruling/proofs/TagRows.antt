@@ -9,9 +9,9 @@ use lib.Dec.{lit<}
 use lib.ListN.{getD}
 use Rattle.answer.specs.Answer.{pick}
 use Rattle.schema.specs.Table.{rows, rowAt}
-use Rattle.schema.specs.Content.{Value, num, nums}
+use Rattle.schema.specs.Content.{ValueWith, num, nums, placeAt}
 use Rattle.records.specs.Content.{membersOf, valueAt, fieldsOf}
-use Rattle.records.specs.Equal.{presentAt, contentAt}
+use Rattle.records.specs.Equal.{presentAt}
 use Rattle.records.specs.Fields.{fieldValue}
 use Rattle.records.specs.declared.FieldList.{FieldList}
 use Rattle.records.specs.declared.NumberSet.{NumberSet}
@@ -24,17 +24,17 @@ use Rattle.ruling.proofs.Tags.{there-given}
 
 -- ---- one field, there or not
 
-number-in : (b : Bool) (n : ℕ) → numberIn (pick b (some (num n)) none) ≡ given b n
+number-in : (O : Type 0) (b : Bool) (n : ℕ) → numberIn {O = O} (pick b (some (num n)) none) ≡ given b n
 unfolding numberIn given pick
-number-in true n = refl
-number-in false n = refl
+number-in O true n = refl
+number-in O false n = refl
 
-set-in : (b : Bool) (l : List ℕ) → setIn (pick b (some (nums l)) none) ≡ given b l
+set-in : (O : Type 0) (b : Bool) (l : List ℕ) → setIn {O = O} (pick b (some (nums l)) none) ≡ given b l
 unfolding setIn given pick
-set-in true l = refl
-set-in false l = refl
+set-in O true l = refl
+set-in O false l = refl
 
-there-in : (b : Bool) (v : Value) → there (pick b (some v) none) ≡ b
+there-in : {O : Type 0} (b : Bool) (v : ValueWith O) → there (pick b (some v) none) ≡ b
 unfolding there pick
 there-in true v = refl
 there-in false v = refl
@@ -68,35 +68,35 @@ module _ (l : FieldList) where
     noAuth = presentAt l 14;
   }
 
-  module _ (s : List ℕ) where
-    number-row : (n k : ℕ) → fieldValue (fieldsOf l s) n ≡ pick (presentAt l k) (some (num (getD (l .values) k 0))) none → numberIn (fieldValue (fieldsOf l s) n) ≡ numberAt k
-    number-row n k e = ap numberIn e ∙ number-in (presentAt l k) (getD (l .values) k 0)
+  module _ {O : Type 0} (part : ℕ → ℕ → O) where
+    number-row : (n k : ℕ) → fieldValue (fieldsOf l part) n ≡ pick (presentAt l k) (some (num (getD (l .values) k 0))) none → numberIn (fieldValue (fieldsOf l part) n) ≡ numberAt k
+    number-row n k e = ap (numberIn {O = O}) e ∙ number-in O (presentAt l k) (getD (l .values) k 0)
 
-    set-row : (n k : ℕ) (g : NumberSet) → fieldValue (fieldsOf l s) n ≡ pick (presentAt l k) (some (nums (membersOf g))) none → setIn (fieldValue (fieldsOf l s) n) ≡ setAt k g
-    set-row n k g e = ap setIn e ∙ set-in (presentAt l k) (membersOf g)
+    set-row : (n k : ℕ) (g : NumberSet) → fieldValue (fieldsOf l part) n ≡ pick (presentAt l k) (some (nums (membersOf g))) none → setIn (fieldValue (fieldsOf l part) n) ≡ setAt k g
+    set-row n k g e = ap (setIn {O = O}) e ∙ set-in O (presentAt l k) (membersOf g)
 
-    held-row : (n k : ℕ) → k < 42 → rowAt k .number ≡ n → there (fieldValue (fieldsOf l s) n) ≡ presentAt l k
-    held-row n k h e = rw (← e) (ap there (row-value l s k h) ∙ there-in (presentAt l k) (contentAt l s k))
+    held-row : (n k : ℕ) → k < 42 → rowAt k .number ≡ n → there (fieldValue (fieldsOf l part) n) ≡ presentAt l k
+    held-row n k h e = rw (← e) (ap there (row-value l part k h) ∙ there-in (presentAt l k) (valueAt l part (rowAt k .number) (rowAt k .kind) k))
 
-    pub by-rows : rulesByRows ≡ rulesOf (fieldsOf l s)
+    pub by-rows : rulesByRows ≡ rulesOf (fieldsOf l part)
     unfolding rulesOf valueAt rows pick
     by-rows =
         cc (
-          set-row 1 0 (l .purpose) (row-value l s 0 (lit< tt)),
-          number-row 2 1 (row-value l s 1 (lit< tt)),
-          set-row 6 4 (l .padding) (row-value l s 4 (lit< tt)),
-          set-row 5 3 (l .digest) (row-value l s 3 (lit< tt)),
-          number-row 3 2 (row-value l s 2 (lit< tt)),
-          number-row 400 10 (row-value l s 10 (lit< tt)),
-          number-row 401 11 (row-value l s 11 (lit< tt)),
-          number-row 402 12 (row-value l s 12 (lit< tt)),
-          number-row 504 15 (row-value l s 15 (lit< tt)),
-          number-row 505 16 (row-value l s 16 (lit< tt)),
+          set-row 1 0 (l .purpose) (row-value l part 0 (lit< tt)),
+          number-row 2 1 (row-value l part 1 (lit< tt)),
+          set-row 6 4 (l .padding) (row-value l part 4 (lit< tt)),
+          set-row 5 3 (l .digest) (row-value l part 3 (lit< tt)),
+          number-row 3 2 (row-value l part 2 (lit< tt)),
+          number-row 400 10 (row-value l part 10 (lit< tt)),
+          number-row 401 11 (row-value l part 11 (lit< tt)),
+          number-row 402 12 (row-value l part 12 (lit< tt)),
+          number-row 504 15 (row-value l part 15 (lit< tt)),
+          number-row 505 16 (row-value l part 16 (lit< tt)),
           held-row 509 20 (lit< tt) refl,
           held-row 507 18 (lit< tt) refl,
           held-row 508 19 (lit< tt) refl,
           held-row 305 9 (lit< tt) refl,
-          number-row 405 13 (row-value l s 13 (lit< tt)),
+          number-row 405 13 (row-value l part 13 (lit< tt)),
           held-row 503 14 (lit< tt) refl,
         )
 
@@ -122,29 +122,29 @@ module _ (l : FieldList) where
         useLimit = useLimit;
         noAuth = presentAt l 14;
       }) (rulesOf (saidFields l))
-  tags-by-rows e₀ e₁ e₂ e₃ e₄ e₅ e₆ e₇ e₈ e₉ e₁₀ = cc (by-rows [])
+  tags-by-rows e₀ e₁ e₂ e₃ e₄ e₅ e₆ e₇ e₈ e₉ e₁₀ = cc (by-rows placeAt)
 
 -- the fields that a list holds under the numbers of a mark's bits, by their rows
 pub tags-numbered : TagsNumbered
 unfolding heldTags rows
 tags-numbered l =
-    ap heldTags (sym (by-rows l []))
+    ap heldTags (sym (by-rows l placeAt))
     ∙ simp (
       there-given,
-      held-row l [] 1 0 (lit< tt) refl,
-      held-row l [] 2 1 (lit< tt) refl,
-      held-row l [] 6 4 (lit< tt) refl,
-      held-row l [] 5 3 (lit< tt) refl,
-      held-row l [] 3 2 (lit< tt) refl,
-      held-row l [] 400 10 (lit< tt) refl,
-      held-row l [] 401 11 (lit< tt) refl,
-      held-row l [] 402 12 (lit< tt) refl,
-      held-row l [] 504 15 (lit< tt) refl,
-      held-row l [] 505 16 (lit< tt) refl,
-      held-row l [] 509 20 (lit< tt) refl,
-      held-row l [] 507 18 (lit< tt) refl,
-      held-row l [] 508 19 (lit< tt) refl,
-      held-row l [] 305 9 (lit< tt) refl,
-      held-row l [] 405 13 (lit< tt) refl,
-      held-row l [] 503 14 (lit< tt) refl,
+      held-row l placeAt 1 0 (lit< tt) refl,
+      held-row l placeAt 2 1 (lit< tt) refl,
+      held-row l placeAt 6 4 (lit< tt) refl,
+      held-row l placeAt 5 3 (lit< tt) refl,
+      held-row l placeAt 3 2 (lit< tt) refl,
+      held-row l placeAt 400 10 (lit< tt) refl,
+      held-row l placeAt 401 11 (lit< tt) refl,
+      held-row l placeAt 402 12 (lit< tt) refl,
+      held-row l placeAt 504 15 (lit< tt) refl,
+      held-row l placeAt 505 16 (lit< tt) refl,
+      held-row l placeAt 509 20 (lit< tt) refl,
+      held-row l placeAt 507 18 (lit< tt) refl,
+      held-row l placeAt 508 19 (lit< tt) refl,
+      held-row l placeAt 305 9 (lit< tt) refl,
+      held-row l placeAt 405 13 (lit< tt) refl,
+      held-row l placeAt 503 14 (lit< tt) refl,
     )

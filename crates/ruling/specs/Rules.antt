@@ -5,19 +5,19 @@ use mathlib.Core.Option.{Option, none, some}
 use mathlib.Core.List.{List, [], _∷_}
 use Prim.Native.Nat.{ℕ}
 use lib.Dec.{eqb}
-use Rattle.schema.specs.Content.{Value, num, nul, oct, nums, trust, Field}
+use Rattle.schema.specs.Content.{ValueWith, num, nul, oct, nums, trust, FieldWith, Place, placeAt}
 use Rattle.records.specs.Content.{fieldsOf}
 use Rattle.records.specs.Fields.{fieldValue}
 use Rattle.records.specs.declared.FieldList.{FieldList}
 
 -- ---- what a list says of a number
 
--- "octet parts aren't looked at here": they may as well lie in no bytes
-abbrev pub saidFields : FieldList → List Field
-saidFields l = fieldsOf l []
+-- "octet parts aren't looked at here": each stays a start and a length
+abbrev pub saidFields : FieldList → List (FieldWith Place)
+saidFields l = fieldsOf l placeAt
 
 -- the INTEGER of a value, and the members of a set
-unfoldable pub numberIn : Option Value → Option ℕ
+unfoldable pub numberIn : {O : Type 0} → Option (ValueWith O) → Option ℕ
 numberIn none = none
 numberIn (some (num n)) = some n
 numberIn (some nul) = none
@@ -25,7 +25,7 @@ numberIn (some (oct bs)) = none
 numberIn (some (nums l)) = none
 numberIn (some (trust r)) = none
 
-unfoldable pub setIn : Option Value → Option (List ℕ)
+unfoldable pub setIn : {O : Type 0} → Option (ValueWith O) → Option (List ℕ)
 setIn none = none
 setIn (some (num n)) = none
 setIn (some nul) = none
@@ -39,13 +39,13 @@ there none = false
 there (some a) = true
 
 -- the INTEGER and the members under a field's number, and whether there is such a field at all
-abbrev pub numberUnder : List Field → ℕ → Option ℕ
+abbrev pub numberUnder : {O : Type 0} → List (FieldWith O) → ℕ → Option ℕ
 numberUnder fs n = numberIn (fieldValue fs n)
 
-abbrev pub setUnder : List Field → ℕ → Option (List ℕ)
+abbrev pub setUnder : {O : Type 0} → List (FieldWith O) → ℕ → Option (List ℕ)
 setUnder fs n = setIn (fieldValue fs n)
 
-abbrev pub holdsNumber : List Field → ℕ → Bool
+abbrev pub holdsNumber : {O : Type 0} → List (FieldWith O) → ℕ → Bool
 holdsNumber fs n = there (fieldValue fs n)
 
 -- ---- the sixteen tags, in the order of a mark's bits
@@ -71,7 +71,7 @@ pub record Rules : Type 0 where
 -- "1 purpose, 5 digest, 6 padding", "400 active, 401 origination expiry, 402 usage expiry", "2 algorithm, 3 keySize",
 -- "405 use limit, 504 auth type, 505 auth timeout (seconds)", "305 early boot", "503 no auth", "507 presence, 508
 -- confirmation, 509 unlocked"
-unfoldable pub rulesOf : List Field → Rules
+unfoldable pub rulesOf : {O : Type 0} → List (FieldWith O) → Rules
 rulesOf fs = record {
   purpose = setUnder fs 1;
   algorithm = numberUnder fs 2;

@@ -11,8 +11,8 @@ use lib.Dec.{T}
 use lib.ListN.{getD}
 use Rattle.answer.specs.Answer.{got, refused}
 use Rattle.answer.specs.Refusal.{illShaped}
-use Rattle.schema.specs.Content.{Field}
-use Rattle.records.specs.Content.{fieldsOf}
+use Rattle.schema.specs.Content.{FieldWith}
+use Rattle.records.specs.Content.{octetsAt, fieldsOf}
 use Rattle.records.specs.Equal.{Equal}
 use Rattle.records.specs.Shape.{wellShapedRecord}
 use Rattle.records.specs.declared.FieldList.{FieldList}
@@ -118,7 +118,7 @@ abbrev pub bitNumbers : List ℕ
 bitNumbers = 1 ∷ 2 ∷ 6 ∷ 5 ∷ 3 ∷ 400 ∷ 401 ∷ 402 ∷ 504 ∷ 505 ∷ 509 ∷ 507 ∷ 508 ∷ 305 ∷ 405 ∷ 503 ∷ []
 
 -- which of them a list of fields holds
-abbrev pub holding : List Field → List ℕ → List Bool
+abbrev pub holding : {O : Type 0} → List (FieldWith O) → List ℕ → List Bool
 holding fs [] = []
 holding fs (n ∷ ns) = holdsNumber fs n ∷ holding fs ns
 
@@ -164,7 +164,7 @@ NothingElse =
 
 -- "octet parts aren't looked at here": wherever they lie, a list's rules are the same
 abbrev pub OctetsUnseen : Type 0
-OctetsUnseen = (l : FieldList) (s : List ℕ) → rulesOf (saidFields l) ≡ rulesOf (fieldsOf l s)
+OctetsUnseen = (l : FieldList) (s : List ℕ) → rulesOf (saidFields l) ≡ rulesOf (fieldsOf l (octetsAt s))
 
 -- "Two such records .. are equal exactly when ..": equal records get the same answer
 abbrev pub EqualRuled : Type 0

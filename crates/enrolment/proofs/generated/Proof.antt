@@ -8,13 +8,13 @@ element-copy-out-if1 : tie.Need-element-copy-out-if1
 element-copy-out-if1 c = search needs
 
 returns : tie.Need-returns
-returns c s = search not-generated
+returns c = search not-generated
 
 element-copy-out-result : tie.Need-element-copy-out-result
 element-copy-out-result c = search needs
 
 returns-2 : tie.Need-returns-2
-returns-2 c s = search origin-read
+returns-2 c = search origin-read
 
 pub generated-spec : {M : Type 1} → statement M
 generated-spec =
