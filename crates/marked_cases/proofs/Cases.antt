@@ -9,7 +9,7 @@ use Rattle.codec.specs.Header.{holds, readHighNumber, readIdentifier, readLengt
 use Rattle.codec.specs.Element.{element, tagged, exactly, both, chainFuel, chain, under}
 use Rattle.codec.specs.Tree.{nodes, run, walkElement, firstPass}
 use Rattle.schema.specs.Table.{rows, knownVersion, heldIn, find, levelTop}
-use Rattle.schema.specs.Decode.{readInteger, readEnumerated, readOctets, nullOf, readNull, readMember, readSet, contentOf, rowContent, fieldContent, readField, readList, readVersion, readEight, decode, read}
+use Rattle.schema.specs.Decode.{readInteger, readEnumerated, readOctets, nullOf, readNull, readMember, readSet, readValue, rowContent, fieldContent, readField, readList, readVersion, readEight, decodeWith, readWith, read}
 use Rattle.ruling.specs.declared.request.Request.{Request}
 use Rattle.ruling.specs.Rules.{there, allows, member}
 use Rattle.ruling.specs.Checks.{knownPurpose, purposeRefused, agreed, algorithmFits, paddingFits, paddingRefused, looksAtDigest, digestFits, digestRefused, digestBytes, keySizeRefused, signs, clockRefused, activeRefused, expiryRefused, authMissing, tokenRefused, freshRefused, usesRefused}
@@ -22,7 +22,7 @@ use Rattle.marked_cases.proofs.Sample.{said, said-read, softwareSaid, h
 -- ---- the extension, listed
 
 extension-listed : listing (read extension) ≡ text
-unfolding listing contentText headText countLine fieldLines fieldLine octetsLine numbersLine named valueText numbersText moreNumbers octetsText hexText hexPair hexDigit decimal digits read decode readEight readVersion readList readField fieldContent rowContent contentOf readSet readMember readNull nullOf readOctets readEnumerated readInteger integerOf rows knownVersion heldIn find levelTop element tagged exactly both chain chainFuel under firstPass walkElement run nodes holds readHeader reported reportedPlace readIdentifier readHighNumber readLength octet guard bind pick
+unfolding listing contentText headText countLine fieldLines fieldLine octetsLine numbersLine named valueText numbersText moreNumbers octetsText hexText hexPair hexDigit decimal digits readWith decodeWith readEight readVersion readList readField fieldContent rowContent readValue readSet readMember readNull nullOf readOctets readEnumerated readInteger integerOf rows knownVersion heldIn find levelTop element tagged exactly both chain chainFuel under firstPass walkElement run nodes holds readHeader reported reportedPlace readIdentifier readHighNumber readLength octet guard bind pick
 extension-listed = refl
 
 -- ---- rulings on it
@@ -59,19 +59,19 @@ key-of-1032 = record { software = refl; hardware = refl; both = refl }
 -- ---- bytes that are refused
 
 empty-2 : read [] ≡ refused 2 0
-unfolding read firstPass walkElement exactly readHeader readIdentifier octet guard bind pick
+unfolding readWith firstPass walkElement exactly readHeader readIdentifier octet guard bind pick
 empty-2 = refl
 
 indefinite-4 : read (0x30 ∷ 0x80 ∷ []) ≡ refused 4 0
-unfolding read firstPass walkElement exactly readHeader reported reportedPlace readIdentifier readLength octet guard bind pick
+unfolding readWith firstPass walkElement exactly readHeader reported reportedPlace readIdentifier readLength octet guard bind pick
 indefinite-4 = refl
 
 spare-byte-7 : read (0x05 ∷ 0x00 ∷ 0x00 ∷ []) ≡ refused 7 2
-unfolding read firstPass walkElement exactly holds readHeader reported readIdentifier readLength octet guard bind pick
+unfolding readWith firstPass walkElement exactly holds readHeader reported readIdentifier readLength octet guard bind pick
 spare-byte-7 = refl
 
 no-sequence-9 : read (0x05 ∷ 0x00 ∷ []) ≡ refused 9 0
-unfolding read decode tagged element exactly firstPass walkElement holds nodes readHeader reported readIdentifier readLength octet guard bind pick
+unfolding readWith decodeWith tagged element exactly firstPass walkElement holds nodes readHeader reported readIdentifier readLength octet guard bind pick
 no-sequence-9 = refl
 
 -- ---- the list

@@ -1,20 +1,14 @@
--- A ruling case holds as soon as one record that its bytes may be read as is ruled so: every other such record says the
--- same content, so it is equal and gets the same answer. Assumes nothing.
+-- A ruling case holds as soon as the one record that its bytes are read as is ruled so. Assumes nothing.
 use mathlib.Core.Path.{_≡_, refl, sym, ap, _∙_}
 use mathlib.Core.List.{List}
 use Prim.Native.Nat.{ℕ}
-use lib.Ieee.Bits.{is-true}
 use Rattle.answer.specs.Answer.{Answer}
-use Rattle.answer.proofs.Answer.{refused-got, got-inj}
-use Rattle.schema.specs.Content.{Content}
-use Rattle.records.specs.Shape.{wellShapedRecord}
 use Rattle.records.specs.declared.Record.{Record}
-use Rattle.records.proofs.Equal.{content-equal}
 use Rattle.reader.specs.Reading.{Reads}
 use Rattle.reader.specs.declared.Outcome.{Outcome}
+use Rattle.reader.proofs.Answered.{same-answer}
 use Rattle.ruling.specs.declared.request.Request.{Request}
 use Rattle.ruling.specs.Ruling.{Permit, ruling}
-use Rattle.ruling.proofs.NothingElse.{equal-ruled}
 use Rattle.marked_cases.specs.Cases.{Use, Asks, Ruled}
 
 -- the request for a use that holds all else as q does
@@ -39,14 +33,8 @@ asks-asking : (u : Use) (q : Request) → Asks u q → q ≡ asking u q
 asks-asking u q a = rw (← a .purpose, ← a .digest, ← a .padding, ← a .clock, ← a .floor) refl
 
 module _ (bs : List ℕ) (n : ℕ) (r : Record) (w : Reads bs (Outcome.Accepted n) r) where
-  same-ruling : (o : Outcome) (r′ : Record) (q : Request) → Reads bs o r′ → ruling r′ q ≡ ruling r q
-  same-ruling (Outcome.Accepted m) r′ q v =
-      equal-ruled r′ bs r bs q (is-true (wellShapedRecord r′) (v .sound .0)) (is-true (wellShapedRecord r) (w .sound .0))
-      (content-equal r′ bs r bs (ap (λ (x : Content × ℕ). x .0) (got-inj (v .is ∙ sym (w .is)))))
-  same-ruling (Outcome.Refused k p) r′ q v = absurd (refused-got (v .is ∙ sym (w .is)))
-
   pub ruled-by : (u : Use) (a : Answer Permit) → ((q : Request) → ruling r (asking u q) ≡ a) → Ruled bs u a
   ruled-by u a e = record {
     accepted = (n, r, w);
-    answers = λ o r′ q v g. same-ruling o r′ q v ∙ (ap (ruling r) (asks-asking u q g) ∙ e q);
+    answers = λ o r′ q v g. ap (λ (x : Record). ruling x q) (same-answer bs (Outcome.Accepted n) o r r′ w v .1) ∙ (ap (ruling r) (asks-asking u q g) ∙ e q);
   }

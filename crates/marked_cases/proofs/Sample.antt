@@ -16,9 +16,10 @@ use Rattle.codec.specs.Header.{holds, readHighNumber, readIdentifier, readLengt
 use Rattle.codec.specs.Element.{element, tagged, exactly, both, chainFuel, chain, under}
 use Rattle.codec.specs.Tree.{nodes, run, walkElement, firstPass}
 use Rattle.schema.specs.Table.{rows, knownVersion, heldIn, find, levelTop}
-use Rattle.schema.specs.Decode.{readInteger, readEnumerated, readOctets, nullOf, readNull, readMember, readSet, contentOf, rowContent, fieldContent, readField, readList, readVersion, readEight, decode, read}
+use Rattle.schema.specs.Decode.{readInteger, readEnumerated, readOctets, nullOf, readNull, readMember, readSet, readValue, rowContent, fieldContent, readField, readList, readVersion, readEight, decodeWith, readWith, read}
 use Rattle.records.specs.Content.{valueAt, fieldAt, upTo}
 use Rattle.records.specs.Fields.{fieldValue}
+use Rattle.records.specs.Made.{isThere, valueWord, sizeWord, orZero, membersIn, rootIn}
 use Rattle.records.specs.Rows.{allBelow}
 use Rattle.records.specs.Parts.{contentInside, rowInside, listInside, partsInside}
 use Rattle.records.specs.Shape.{setShaped, valueShaped, rowShaped, listShaped, headShaped, wellShapedRecord}
@@ -26,7 +27,7 @@ use Rattle.records.specs.declared.NumberSet.{NumberSet}
 use Rattle.records.specs.declared.Record.{Record}
 use Rattle.reader.specs.Reading.{Reads}
 use Rattle.reader.specs.declared.Outcome.{Outcome}
-use Rattle.reader.specs.Empty.{emptySet, emptyRoot}
+use Rattle.records.specs.Empty.{emptySet, emptyRoot}
 use Rattle.ruling.specs.Rules.{numberIn, setIn, there, Rules, rulesOf}
 use Rattle.ruling.specs.Ruling.{ruled, ruling}
 use Rattle.ruling.specs.declared.request.Request.{Request}
@@ -66,8 +67,8 @@ said = record {
 }
 
 pub said-read : Reads extension (Outcome.Accepted 26) said
-unfolding read decode readEight readVersion readList readField fieldContent rowContent contentOf readSet readMember readNull nullOf readOctets readEnumerated readInteger integerOf rows knownVersion heldIn find levelTop element tagged exactly both chain chainFuel under firstPass walkElement run nodes holds readHeader reported reportedPlace readIdentifier readHighNumber readLength octet guard bind pick valueAt fieldAt upTo allBelow contentInside rowInside listInside partsInside setShaped valueShaped rowShaped listShaped headShaped wellShapedRecord
-said-read = record { is = refl; empty = tt; sound = (tt, tt) }
+unfolding readWith decodeWith readEight readVersion readList readField fieldContent rowContent readValue readSet readMember readNull nullOf readOctets readEnumerated readInteger integerOf rows knownVersion heldIn find levelTop element tagged exactly both chain chainFuel under firstPass walkElement run nodes holds readHeader reported reportedPlace readIdentifier readHighNumber readLength octet guard bind pick valueAt fieldAt upTo allBelow contentInside rowInside listInside partsInside setShaped valueShaped rowShaped listShaped headShaped wellShapedRecord fieldValue isThere valueWord sizeWord orZero membersIn rootIn
+said-read = record { is = refl; empty = tt; sound = (tt, tt); made = refl }
 
 abbrev pub softwareSaid : Rules
 softwareSaid = record {

@@ -3,7 +3,7 @@
 use mathlib.Core.Path.{_≡_, refl, sym, ap, subst, _∙_}
 use mathlib.Core.Bool.{Bool, true, false, _&&_}
 use mathlib.Core.List.{List, _++_}
-use Prim.Native.Nat.{ℕ, _+_, _≤_, _<_}
+use Prim.Native.Nat.{ℕ, _≤_, _<_}
 use native.Mathlib.Omega.{arith}
 use native.Mathlib.Nat.{zero-add}
 use lib.ListN.{length, take, drop}
@@ -15,34 +15,27 @@ use Rattle.answer.proofs.Answer.{got-inj, refused-got, guard-yes, guard-case}
 use Rattle.answer.proofs.Logic.{and-left, and-right, and-both}
 use Rattle.codec.specs.Octets.{Octets, splice, left}
 use Rattle.codec.proofs.Walks.{top}
-use Rattle.schema.specs.Content.{Content, Place, placeAt, Places, encode, wellShaped}
-use Rattle.schema.specs.Parts.{EachPart}
+use Rattle.schema.specs.Content.{Content, encode}
 use Rattle.schema.specs.Count.{countOf}
 use Rattle.schema.specs.Decode.{read, readPlaces, asPlace}
 use Rattle.schema.proofs.Places.{octets-at-places}
-use Rattle.schema.proofs.Inside.{places-shaped, places-inside}
 use Rattle.schema.proofs.Refusals as refusals
 use Rattle.schema.proofs.Accepted as accepted
 use Rattle.schema.proofs.Accepted.{read-encode, read-sound, read-injective}
 use Rattle.schema.proofs.Count.{encode-one, count-few}
 use Rattle.schema.proofs.Shape.{shaped-good}
 use Rattle.schema.proofs.Encoded.{encode-octets}
-use Rattle.records.specs.Content.{octetsAt, contentOf, placesOf}
-use Rattle.records.specs.Empty.{emptyRecord}
-use Rattle.records.specs.Made.{recordMade}
+use Rattle.records.specs.Content.{octetsAt, contentOf}
 use Rattle.records.specs.Shape.{wellShapedRecord}
 use Rattle.records.specs.Parts.{partsInside}
 use Rattle.records.specs.Equal.{Equal}
 use Rattle.records.specs.declared.Record.{Record}
 use Rattle.records.proofs.PlacesRead.{places-read}
-use Rattle.records.proofs.PartsLie.{parts-lie}
-use Rattle.records.proofs.ContentShaped.{content-shaped}
-use Rattle.records.proofs.Made.{empty-made}
-use Rattle.records.proofs.Making.{made-says, made-slots}
 use Rattle.records.proofs.Equal.{equal-content, content-equal}
 use Rattle.records.proofs.ShapedContent.{shaped-content}
 use Rattle.reader.specs.declared.Outcome.{Outcome}
 use Rattle.reader.specs.Reading.{ofReading, Reads}
+use Rattle.reader.proofs.Answered.{same-answer, some-answer}
 use Rattle.writer.specs.declared.Written.{Written}
 use Rattle.writer.specs.Written.{encodingOf, writable, written, ofWritten, Writes}
 use Rattle.one_record.specs.Contracts.{ReadsAs}
@@ -50,35 +43,6 @@ use Rattle.one_record.specs.Statements.{OneAnswer, ReadRefuses, SchemaRe
 use Rattle.one_record.proofs.ContentOctets.{content-octets}
 
 -- ---- one answer
-
-refusal-is : {A : Type 0} {k p n q : ℕ} → _≡_ {A = Answer A} (refused k p) (refused n q) → (k ≡ n) × (p ≡ q)
-refusal-is e = (cc, cc)
-
-same-answer : (s : List ℕ) (o o′ : Outcome) (r r′ : Record) → Reads s o r → Reads s o′ r′ → (o′ ≡ o) × (r′ ≡ r)
-same-answer s (Outcome.Accepted n) (Outcome.Accepted m) r r′ g h =
-    let e = got-inj (h .is ∙ sym (g .is)) in
-    (ap Outcome.Accepted (ap (λ (x : Places × ℕ). x .1) e), sym (h .made) ∙ ap recordMade (ap (λ (x : Places × ℕ). x .0) e) ∙ g .made)
-same-answer s (Outcome.Accepted n) (Outcome.Refused k p) r r′ g h = absurd (refused-got (h .is ∙ sym (g .is)))
-same-answer s (Outcome.Refused k p) (Outcome.Accepted m) r r′ g h = absurd (refused-got (g .is ∙ sym (h .is)))
-same-answer s (Outcome.Refused k p) (Outcome.Refused j q) r r′ g h =
-    let e = refusal-is (h .is ∙ sym (g .is)) in
-    (rw (e .0, e .1) refl, h .empty ∙ sym (g .empty))
-
-some-answer : (s : List ℕ) → Octets s → (a : Answer (Places × ℕ)) → readPlaces s ≡ a → (o : Outcome) × (r : Record) × Reads s o r
-some-answer s b (got w) e =
-    let t = places-shaped s (w .0) (w .1) b e in
-    let y = made-says (w .0) t in
-    let i : EachPart (λ p. p .start + p .len ≤ length s) (placesOf (recordMade (w .0))) = subst (λ (c : Places). EachPart (λ p. p .start + p .len ≤ length s) c) (sym y) (places-inside s (w .0) (w .1) b e) in (
-      Outcome.Accepted (w .1),
-      recordMade (w .0),
-      record {
-        is = ap (λ (c : Places). got (c, w .1)) y ∙ sym e;
-        empty = tt;
-        sound = (content-shaped (recordMade (w .0)) placeAt (made-slots (w .0) t .0) (made-slots (w .0) t .1) (subst (λ (c : Places). T (wellShaped c)) (sym y) t), parts-lie (length s) (recordMade (w .0)) i);
-        made = ap recordMade y;
-      },
-    )
-some-answer s b (refused k p) e = (Outcome.Refused k p, emptyRecord, record { is = sym e; empty = refl; sound = tt; made = empty-made })
 
 pub one-answer : OneAnswer
 one-answer s b =

@@ -14,3 +14,4 @@ pub mod Roots
 pub mod Eights
 pub mod Readings
 pub mod Heads
+pub mod Answered
