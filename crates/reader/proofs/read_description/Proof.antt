@@ -37,13 +37,25 @@ refused-requires-3 : tie.Need-refused-requires-3
 refused-requires-3 c κs = search needs
 
 returns : tie.Need-returns
-returns c = (read-extra (now (c .before .before .before .before .before .before .before .before .before .before .before .before .args .s)) (c .before .before .before .before .before .before .before .before .before .before .before .before .args .count) (c .before .before .before .before .before .before .before .before .before .before .open-tagged .result) (c .before .before .before .before .before .before .before .before .before .before .open-tagged .ensures .0) _ _ (c .before .before .before .before .before .before .before .before .body .given .1) (c .before .before .before .before .before .before .before .before .before .before .open-tagged .ensures .1) (c .before .before .before .before .before .before .read-eight .result .step) (c .before .before .before .before .before .before .read-eight .result .said) (c .before .before .before .before .before .before .read-eight .ensures .0) _ (c .before .before .before .step2 .given .1) (c .before .before .before .before .before .before .read-eight .ensures .1 .0) (c .refused3 .result) (c .before .if1 .taken) (c .refused3 .ensures), (search (needs, refused-empty), search (needs, refused-in)))
+returns c =
+    let step2 = c .before .before .before in
+    let read-eight = step2 .before .before .before in
+    let body = read-eight .before .before in
+    let open-tagged = body .before .before in
+    let start = open-tagged .before .before in
+    (read-extra (now (start .args .s)) (start .args .count) (open-tagged .open-tagged .result) (open-tagged .open-tagged .ensures .0) _ _ (body .body .given .1) (open-tagged .open-tagged .ensures .1) (read-eight .read-eight .result .step) (read-eight .read-eight .result .said) (read-eight .read-eight .ensures .0) _ (step2 .step2 .given .1) (read-eight .read-eight .ensures .1 .0) (c .refused3 .result) (c .before .if1 .taken) (c .refused3 .ensures), (search (needs, refused-empty), search (needs, refused-in)))
 
 refused-requires-4 : tie.Need-refused-requires-4
 refused-requires-4 c κs = search needs
 
 returns-2 : tie.Need-returns-2
-returns-2 c = (read-spare (now (c .before .before .before .before .before .before .before .before .before .before .before .before .before .args .s)) (c .before .before .before .before .before .before .before .before .before .before .before .before .before .args .count) (c .before .before .before .before .before .before .before .before .before .before .before .open-tagged .result) (c .before .before .before .before .before .before .before .before .before .before .before .open-tagged .ensures .0) _ _ (c .before .before .before .before .before .before .before .before .before .body .given .1) (c .before .before .before .before .before .before .before .before .before .before .before .open-tagged .ensures .1) (c .before .before .before .before .before .before .before .read-eight .result .step) (c .before .before .before .before .before .before .before .read-eight .result .said) (c .before .before .before .before .before .before .before .read-eight .ensures .0) _ (c .before .before .before .before .step2 .given .1) (c .before .before .before .before .before .before .before .read-eight .ensures .1 .0) (c .before .before .if1 .left) (c .refused4 .result) (c .before .if2 .taken) (c .refused4 .ensures), (refused-empty _ _ (c .refused4 .result) (c .refused4 .ensures), refused-in _ _ _ (c .refused4 .result) (c .refused4 .ensures)))
+returns-2 c =
+    let step2 = c .before .before .before .before in
+    let read-eight = step2 .before .before .before in
+    let body = read-eight .before .before in
+    let open-tagged = body .before .before in
+    let start = open-tagged .before .before in
+    (read-spare (now (start .args .s)) (start .args .count) (open-tagged .open-tagged .result) (open-tagged .open-tagged .ensures .0) _ _ (body .body .given .1) (open-tagged .open-tagged .ensures .1) (read-eight .read-eight .result .step) (read-eight .read-eight .result .said) (read-eight .read-eight .ensures .0) _ (step2 .step2 .given .1) (read-eight .read-eight .ensures .1 .0) (c .before .before .if1 .left) (c .refused4 .result) (c .before .if2 .taken) (c .refused4 .ensures), (refused-empty _ _ (c .refused4 .result) (c .refused4 .ensures), refused-in _ _ _ (c .refused4 .result) (c .refused4 .ensures)))
 
 returns-3 : tie.Need-returns-3
 returns-3 c = (search (read-no, read-eight-no, read-extra, read-spare), (search (needs, refused-empty), search (needs, refused-in)))

@@ -38,10 +38,20 @@ has-room-requires : tie.Need-has-room-requires
 has-room-requires c κs = search needs
 
 write-header-requires : tie.Need-write-header-requires
-write-header-requires c κs = (search needs, search needs, enough (now (c .before .before .before .before .before .before .before .before .before .before .args .out)) (c .before .before .before .before .before .before .before .before .before .before .args .at) (c .before .before .before .before .before .before .before .before .before .before .args .form) (c .before .before .before .before .before .before .before .before .before .before .args .number) (c .before .before .before .before .before .before .before .before .before .before .args .size) (c .before .before .before .before .before .identifier-size .result) (c .before .before .before .before .length-size .result) (c .before .before .before .before .before .identifier-size .ensures .0) (c .before .before .before .before .length-size .ensures .0) (sym (c .before .if4 .taken) ∙ c .before .before .has-room .ensures))
+write-header-requires c κs =
+    let length-size = c .before .before .before .before in
+    let identifier-size = length-size .before in
+    let start = identifier-size .before .before .before .before .before in
+    (search needs, search needs, enough (now (start .args .out)) (start .args .at) (start .args .form) (start .args .number) (start .args .size) (identifier-size .identifier-size .result) (length-size .length-size .result) (identifier-size .identifier-size .ensures .0) (length-size .length-size .ensures .0) (sym (c .before .if4 .taken) ∙ c .before .before .has-room .ensures))
 
 add-t16 : tie.Need-add-t16
-add-t16 c = omega (arith, enough (now (c .before .before .before .before .before .before .before .before .before .before .before .before .before .args .out)) (c .before .before .before .before .before .before .before .before .before .before .before .before .before .args .at) (c .before .before .before .before .before .before .before .before .before .before .before .before .before .args .form) (c .before .before .before .before .before .before .before .before .before .before .before .before .before .args .number) (c .before .before .before .before .before .before .before .before .before .before .before .before .before .args .size) (c .before .before .before .before .before .before .before .before .identifier-size .result) (c .before .before .before .before .before .before .before .length-size .result) (c .before .before .before .before .before .before .before .before .identifier-size .ensures .0) (c .before .before .before .before .before .before .before .length-size .ensures .0) (sym (c .before .before .before .before .if4 .taken) ∙ c .before .before .before .before .before .has-room .ensures), header-octets (now (c .before .before .before .before .before .before .before .before .before .before .before .before .before .args .out)) (c .before .before .before .before .before .before .before .before .before .before .before .before .before .args .at) (c .before .before .before .before .before .before .before .before .before .before .before .before .before .args .form) (c .before .before .before .before .before .before .before .before .before .before .before .before .before .args .number) (c .before .before .before .before .before .before .before .before .before .before .before .before .before .args .size) (c .before .before .before .before .before .before .before .before .identifier-size .result) (c .before .before .before .before .before .before .before .length-size .result) (c .before .before .before .before .before .before .before .before .identifier-size .ensures .0) (c .before .before .before .before .before .before .before .length-size .ensures .0))
+add-t16 c =
+    let if4 = c .before .before .before .before in
+    let has-room = if4 .before in
+    let length-size = has-room .before .before in
+    let identifier-size = length-size .before in
+    let start = identifier-size .before .before .before .before .before in
+    omega (arith, enough (now (start .args .out)) (start .args .at) (start .args .form) (start .args .number) (start .args .size) (identifier-size .identifier-size .result) (length-size .length-size .result) (identifier-size .identifier-size .ensures .0) (length-size .length-size .ensures .0) (sym (if4 .if4 .taken) ∙ has-room .has-room .ensures), header-octets (now (start .args .out)) (start .args .at) (start .args .form) (start .args .number) (start .args .size) (identifier-size .identifier-size .result) (length-size .length-size .result) (identifier-size .identifier-size .ensures .0) (length-size .length-size .ensures .0))
 
 same-length : tie.Need-same-length
 same-length c = search needs

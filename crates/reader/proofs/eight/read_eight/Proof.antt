@@ -51,10 +51,24 @@ returns-2 : tie.Need-returns-2
 returns-2 c = (search (eight-no, eight-no-software, eight-no-hardware), (refused-inside (c .before .before .before .before .before .before .before .before .before .before .before .args .at) (c .before .before .before .before .before .before .before .before .before .before .before .args .end) _ _ _ (c .refused-eight2 .ensures), refused-eight-in _ _ _ (c .refused-eight2 .result) (c .refused-eight2 .ensures)))
 
 returns-3 : tie.Need-returns-3
-returns-3 c = (eight-no-hardware (now (c .before .before .before .before .before .before .before .before .before .before .before .before .before .before .before .before .args .s)) (c .before .before .before .before .before .before .before .before .before .before .before .before .before .before .before .before .args .at) (c .before .before .before .before .before .before .before .before .before .before .before .before .before .before .before .before .args .end) (c .before .before .before .before .before .before .before .before .before .before .before .before .before .before .read-head .result) (c .before .before .before .before .before .before .before .before .before .before .before .before .before .before .read-head .ensures .0) _ _ _ _ _ (c .before .before .before .before .before .before .before .before .before .before .before .before .attestation .given .1) (c .before .before .before .before .before .before .before .before .before .before .read-list .result .step) (c .before .before .before .before .before .before .before .before .before .before .read-list .result .list) (c .before .before .before .before .before .before .before .before .before .before .read-list .ensures .0) _ (c .before .before .before .before .before .before .before .after2 .given .1) (c .before .before .before .before .before .read-list2 .result .step) (c .before .before .before .before .before .read-list2 .result .list) (c .before .before .before .before .before .read-list2 .ensures .0) _ _ (c .refused-eight3 .result) (c .before .before .last .given .1) (c .refused-eight3 .ensures), (refused-inside (c .before .before .before .before .before .before .before .before .before .before .before .before .before .before .before .before .args .at) (c .before .before .before .before .before .before .before .before .before .before .before .before .before .before .before .before .args .end) _ _ _ (c .refused-eight3 .ensures), refused-eight-in _ _ _ (c .refused-eight3 .result) (c .refused-eight3 .ensures)))
+returns-3 c =
+    let read-list2 = c .before .before .before .before .before in
+    let after2 = read-list2 .before .before in
+    let read-list = after2 .before .before .before in
+    let attestation = read-list .before .before in
+    let read-head = attestation .before .before in
+    let start = read-head .before .before in
+    (eight-no-hardware (now (start .args .s)) (start .args .at) (start .args .end) (read-head .read-head .result) (read-head .read-head .ensures .0) _ _ _ _ _ (attestation .attestation .given .1) (read-list .read-list .result .step) (read-list .read-list .result .list) (read-list .read-list .ensures .0) _ (after2 .after2 .given .1) (read-list2 .read-list2 .result .step) (read-list2 .read-list2 .result .list) (read-list2 .read-list2 .ensures .0) _ _ (c .refused-eight3 .result) (c .before .before .last .given .1) (c .refused-eight3 .ensures), (refused-inside (start .args .at) (start .args .end) _ _ _ (c .refused-eight3 .ensures), refused-eight-in _ _ _ (c .refused-eight3 .result) (c .refused-eight3 .ensures)))
 
 returns-4 : tie.Need-returns-4
-returns-4 c = (eight-is (now (c .before .before .before .before .before .before .before .before .before .before .before .before .before .before .before .args .s)) (c .before .before .before .before .before .before .before .before .before .before .before .before .before .before .before .args .at) (c .before .before .before .before .before .before .before .before .before .before .before .before .before .before .before .args .end) (c .before .before .before .before .before .before .before .before .before .before .before .before .before .read-head .result) (c .before .before .before .before .before .before .before .before .before .before .before .before .before .read-head .ensures .0) _ _ _ _ _ (c .before .before .before .before .before .before .before .before .before .before .before .attestation .given .1) (c .before .before .before .before .before .before .before .before .before .read-list .result .step) (c .before .before .before .before .before .before .before .before .before .read-list .result .list) (c .before .before .before .before .before .before .before .before .before .read-list .ensures .0) _ (c .before .before .before .before .before .before .after2 .given .1) (c .before .before .before .before .read-list2 .result .step) (c .before .before .before .before .read-list2 .result .list) (c .before .before .before .before .read-list2 .ensures .0) _ (c .before .last2 .given .1), (omega (arith, head-inside (c .before .before .before .before .before .before .before .before .before .before .before .before .before .before .before .args .at) (c .before .before .before .before .before .before .before .before .before .before .before .before .before .before .before .args .end) _ _ _ _ _ _ (c .before .before .before .before .before .before .before .before .before .before .before .before .before .read-head .ensures .1) (c .before .before .before .before .before .before .before .before .before .before .before .attestation .given .1), step-in (c .before .before .before .before .before .before .before .before .before .before .before .attestation .given .0 .1 .1 .1 .1 .0) (c .before .before .before .before .before .before .before .before .before .before .before .before .before .before .before .args .end) _ _ (c .before .before .before .before .before .before .before .before .before .read-list .ensures .1 .0) (c .before .before .before .before .before .before .after2 .given .1), step-in (c .before .before .before .before .before .before .after2 .given .0 .0) (c .before .before .before .before .before .before .before .before .before .before .before .before .before .before .before .args .end) _ _ (c .before .before .before .before .read-list2 .ensures .1 .0) (c .before .last2 .given .1)), eight-in _ (c .before .before .before .before .before .before .before .before .before .before .before .before .before .before .before .args .at) (c .before .before .before .before .before .before .before .before .before .before .before .before .before .before .before .args .end) (c .before .before .before .before .before .before .before .before .before .before .before .before .before .read-head .result) _ _ _ _ _ _ _ (c .before .before .before .before .before .before .before .before .before .before .before .before .before .before .before .pre) (c .before .before .before .before .before .before .before .before .before .before .before .before .before .read-head .ensures .1) (c .before .before .before .before .before .before .before .before .before .before .before .attestation .given .1) (c .before .before .before .before .before .before .before .before .before .read-list .ensures .1 .1) (c .before .before .before .before .read-list2 .ensures .1 .1)))
+returns-4 c =
+    let read-list2 = c .before .before .before .before in
+    let after2 = read-list2 .before .before in
+    let read-list = after2 .before .before .before in
+    let attestation = read-list .before .before in
+    let read-head = attestation .before .before in
+    let start = read-head .before .before in
+    (eight-is (now (start .args .s)) (start .args .at) (start .args .end) (read-head .read-head .result) (read-head .read-head .ensures .0) _ _ _ _ _ (attestation .attestation .given .1) (read-list .read-list .result .step) (read-list .read-list .result .list) (read-list .read-list .ensures .0) _ (after2 .after2 .given .1) (read-list2 .read-list2 .result .step) (read-list2 .read-list2 .result .list) (read-list2 .read-list2 .ensures .0) _ (c .before .last2 .given .1), (omega (arith, head-inside (start .args .at) (start .args .end) _ _ _ _ _ _ (read-head .read-head .ensures .1) (attestation .attestation .given .1), step-in (attestation .attestation .given .0 .1 .1 .1 .1 .0) (start .args .end) _ _ (read-list .read-list .ensures .1 .0) (after2 .after2 .given .1), step-in (after2 .after2 .given .0 .0) (start .args .end) _ _ (read-list2 .read-list2 .ensures .1 .0) (c .before .last2 .given .1)), eight-in _ (start .args .at) (start .args .end) (read-head .read-head .result) _ _ _ _ _ _ _ (start .pre) (read-head .read-head .ensures .1) (attestation .attestation .given .1) (read-list .read-list .ensures .1 .1) (read-list2 .read-list2 .ensures .1 .1)))
 
 pub read-eight-spec : {M : Type 1} → statement M
 read-eight-spec =

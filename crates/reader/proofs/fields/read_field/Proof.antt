@@ -28,7 +28,11 @@ returns : tie.Need-returns
 returns c = (search field-read-no, search field-none-inside)
 
 returns-2 : tie.Need-returns-2
-returns-2 c = (field-read-is (now (c .before .before .before .before .before .before .before .args .s)) (c .before .before .before .before .before .before .before .args .at) (c .before .before .before .before .before .before .before .args .end) (c .before .before .before .before .before .before .before .args .version) (c .before .before .before .before .before .before .before .args .low) (c .before .before .before .before .before .open-field .result) (c .before .before .before .before .before .open-field .ensures) _ _ _ _ (c .before .before .before .row .given .1) (c .before .row-at .result) (c .before .row-at .ensures) (c .read-content .result) _ refl (c .read-content .ensures .0), search field-inside)
+returns-2 c =
+    let row = c .before .before .before in
+    let open-field = row .before .before in
+    let start = open-field .before .before in
+    (field-read-is (now (start .args .s)) (start .args .at) (start .args .end) (start .args .version) (start .args .low) (open-field .open-field .result) (open-field .open-field .ensures) _ _ _ _ (row .row .given .1) (c .before .row-at .result) (c .before .row-at .ensures) (c .read-content .result) _ refl (c .read-content .ensures .0), search field-inside)
 
 pub read-field-spec : {M : Type 1} → statement M
 read-field-spec =
