@@ -1,8 +1,8 @@
 -- What was read is listed: the answers of the reader and of the listing, put together.
-use Rattle.list_extension.proofs.Said.{accepted-lists, accepted-leaves, refused-lists, refused-leaves}
+use Rattle.extension_text.proofs.Said.{accepted-lists, accepted-leaves, refused-lists, refused-leaves}
 use borrow.Author.Needs.{needs}
-use Rattle.list_extension.proofs.list_bytes.Statement.{statement}
-use Rattle.list_extension.proofs.list_bytes.Tie as tie
+use Rattle.extension_text.proofs.list_bytes.Statement.{statement}
+use Rattle.extension_text.proofs.list_bytes.Tie as tie
 
 read-requires : tie.Need-read-requires
 read-requires c κs = search needs

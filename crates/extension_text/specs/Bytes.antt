@@ -1,12 +1,13 @@
--- What listing an extension's bytes into an output answers and leaves (document 01, "One extension, whole").
+-- What listing an extension's bytes into an output answers and leaves (document 01, "One extension, whole"), and what is
+-- proved of it: ListedWhole. proofs/Said.antt has the theorem, listed-whole.
+use mathlib.Core.Path.{_≡_}
 use mathlib.Core.List.{List}
-use Prim.Native.Nat.{ℕ}
+use Prim.Native.Nat.{ℕ, _≤_}
 use lib.ListN.{length}
 use Rattle.answer.specs.Answer.{Answer, got, refused}
 use Rattle.codec.specs.Octets.{left}
 use Rattle.schema.specs.Content.{Content}
 use Rattle.schema.specs.Decode.{read}
-use Rattle.listing.specs.declared.Listed.{Listed}
 use Rattle.listing.specs.Room.{needed, refusalNeeded, listed}
 use Rattle.listing.specs.Text.{listing}
 
@@ -30,7 +31,6 @@ extensionListed s out = listedAs (read s) (length s) out
 abbrev pub extensionLeft : List ℕ → List ℕ → List ℕ
 extensionLeft s out = leftAs (read s) (length s) out
 
--- how many octets a listing wrote: none where its output was short
-abbrev pub written : Listed → ℕ
-written (Listed.Wrote n) = n
-written Listed.Short = 0
+-- 491,520 octets are enough for any bytes: their listing is written whole
+abbrev pub ListedWhole : Type 0
+ListedWhole = (s out : List ℕ) → 491520 ≤ length out → extensionListed s out ≡ got (length (listing (read s)))

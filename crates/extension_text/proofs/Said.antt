@@ -1,10 +1,16 @@
--- What is listed of the reader's answer is what is listed of the definition's.
-use mathlib.Core.Path.{_≡_, subst}
+-- What is listed of the reader's answer is what is listed of the definition's; and how much room is always enough.
+-- Assumes nothing.
+use mathlib.Core.Path.{_≡_, refl, sym, subst, ap, _∙_}
 use mathlib.Core.List.{List}
-use Prim.Native.Nat.{ℕ}
+use Prim.Native.Nat.{ℕ, _+_, _*_, _<_, _≤_}
+use native.Mathlib.Omega.{arith}
+use borrow.Author.Tests.{le-leb, lt-leb}
 use lib.ListN.{length}
-use Rattle.answer.specs.Answer.{Answer}
+use Rattle.answer.specs.Answer.{Answer, got, refused, guard, bind}
+use Rattle.answer.proofs.Logic.{by-le}
 use Rattle.codec.specs.Octets.{left}
+use Rattle.codec.specs.Tree.{firstPass}
+use Rattle.schema.specs.Decode.{read}
 use Rattle.schema.specs.Content.{Content}
 use Rattle.listing.specs.Room.{needed, refusalNeeded, listed}
 use Rattle.listing.specs.Text.{listing, contentText, refusalText}
@@ -12,7 +18,7 @@ use Rattle.records.specs.declared.Record.{Record}
 use Rattle.reader.specs.declared.Outcome.{Outcome}
 use Rattle.reader.specs.Reading.{ofReading}
 use Rattle.records.specs.Content.{contentOf}
-use Rattle.list_extension.specs.Written.{listedAs, leftAs}
+use Rattle.extension_text.specs.Bytes.{room, listedAs, leftAs, ListedWhole}
 
 module _ (s out : List ℕ) (o : Outcome) (g : Record) {a : Answer (Content × ℕ)} (is : ofReading s o g ≡ a) where
   -- the room asked is that of the length of s, and the text that of the answer
@@ -36,3 +42,25 @@ module _ (s out : List ℕ) (o : Outcome) (g : Record) {a : Answer (Content × �
 
   pub refused-leaves : {k p : ℕ} {new : List ℕ} → o ≡ Outcome.Refused k p → new ≡ left (listed refusalNeeded out (refusalText k p)) out 0 (refusalText k p) → new ≡ leftAs a (length s) out
   refused-leaves w h = kept (told w) (unfold listing in h)
+
+-- ---- how much room is enough
+
+-- over the limit of bytes nothing is read
+long-refused : (s : List ℕ) → 8192 < length s → read s ≡ refused 1 0
+unfolding read firstPass guard bind
+long-refused s h = rw (lt-leb (length s) 8192 h) refl
+
+-- so no answer asks for more than 8,192 bytes do
+room-most : (s : List ℕ) → room (read s) (length s) ≤ 491520
+room-most s =
+    by-le (length s) 8192
+    (λ h. go (read s) h)
+    (λ h. rw (long-refused s h) (omega arith))
+  where
+    go : (a : Answer (Content × ℕ)) → length s ≤ 8192 → room a (length s) ≤ 491520
+    go (got c) h = omega arith
+    go (refused number place) h = omega arith
+
+pub listed-whole : ListedWhole
+unfolding listed guard
+listed-whole s out h = rw (le-leb (room (read s) (length s)) (length out) (omega (arith, room-most s))) refl
