@@ -1,5 +1,5 @@
--- A read's answer is the defined one, and the image that it fills is that of a record with the extension's content.
--- Assumes nothing.
+-- A read's answer is the defined one, and the image that it fills is that of the record read; what follows for the image's
+-- own record. Assumes nothing.
 use mathlib.Core.Path.{_≡_, refl, sym, ap, subst, _∙_}
 use mathlib.Core.Bool.{true}
 use mathlib.Core.List.{List, _++_}
@@ -8,63 +8,79 @@ use native.Mathlib.Omega.{arith}
 use lib.Dec.{T}
 use lib.ListN.{length, drop}
 use lib.Seq.{drop-at}
-use Rattle.answer.specs.Answer.{Answer, got, refused}
+use borrow.Author.Tests.{le-leb}
+use Rattle.answer.specs.Answer.{Answer, got, refused, pick}
 use Rattle.answer.specs.Refusal.{shortImage}
 use Rattle.codec.specs.Octets.{splice}
 use Rattle.codec.proofs.Splice.{length-splice}
 use Rattle.schema.specs.Content.{Content}
 use Rattle.schema.specs.Decode.{read}
 use Rattle.records.specs.declared.Record.{Record}
-use Rattle.records.specs.Content.{contentOf}
 use Rattle.records.specs.Shape.{wellShapedRecord}
 use Rattle.records.specs.Parts.{partsInside}
 use Rattle.reader.specs.declared.Outcome.{Outcome}
-use Rattle.reader.specs.Reading.{ofReading, AcceptedSound}
-use Rattle.sculldrip.specs.Image.{imageOf, recordOf, wordsFit}
-use Rattle.sculldrip.specs.Whole.{Whole}
+use Rattle.reader.specs.Reading.{ofReading, Reads}
+use Rattle.image.specs.Image.{imageOf, recordOf, wordsFit, imagePut}
+use Rattle.image.specs.Whole.{Whole}
+use Rattle.image.proofs.Puts.{image-length}
+use Rattle.image.proofs.RoundTrip.{record-back, image-fits}
 use Rattle.sculldrip.specs.Packed.{packed}
-use Rattle.sculldrip.specs.Calls.{counted, readInto, Filled, ReadLeaves}
+use Rattle.sculldrip.specs.Calls.{counted, readInto, readAnswer, Filled, LeavesRead, ReadLeaves}
 use Rattle.sculldrip.proofs.Calls.{too-few, enough, numbered}
-use Rattle.sculldrip.proofs.Puts.{image-length}
-use Rattle.sculldrip.proofs.RoundTrip.{record-back, image-fits}
 
 -- both clauses, from the answer that they speak of
-told : (s old new : List ℕ) {x : Answer (Content × ℕ)} → x ≡ readInto s old → {n : ℕ} → n ≡ packed (counted (λ c. c .1) x) → ReadLeaves x s old new
-    → (n ≡ packed (counted (λ c. c .1) (readInto s old))) × ReadLeaves (readInto s old) s old new
-told s old new e {n} p q = (numbered e (λ c. c .1) p, subst (λ (y : Answer (Content × ℕ)). ReadLeaves y s old new) e q)
-
--- an image that a whole record's words were put into
-filled : (s old new : List ℕ) (r : Record) → 410 ≤ length old → (new ≡ splice old 0 (imageOf r)) × Whole r → T (wellShapedRecord r) × T (partsInside r (length s)) → Filled s old new (contentOf r s)
-unfolding splice
-filled s old new r h (e, w) (a, b) =
-    let n : length (imageOf r) ≡ 410 = image-length r w in
-    let z : 0 + length (imageOf r) ≡ 410 = omega arith in
-    let f : new ≡ imageOf r ++ drop 410 old = e ∙ rw z refl in
-    let k : recordOf new ≡ r = ap recordOf f ∙ record-back r (drop 410 old) w in
-    record {
-      says = rw k refl;
-      fits = ap wordsFit f ∙ image-fits r (drop 410 old) w;
-      shaped = rw k a;
-      inside = rw k b;
-      rest = ap (drop 410) f ∙ drop-at (imageOf r) (drop 410 old) 410 n;
-      sized = ap length e ∙ length-splice old 0 (imageOf r) (omega arith);
-    }
+told : (s old new : List ℕ) {x : Answer (Content × ℕ)} → x ≡ readInto s old → {n : ℕ} → n ≡ packed (counted (λ c. c .1) x) → LeavesRead x s old new
+    → (n ≡ readAnswer s old) × ReadLeaves s old new
+told s old new e {n} p q = (numbered e (λ c. c .1) p, subst (λ (y : Answer (Content × ℕ)). LeavesRead y s old new) e q)
 
 module _ (s old : List ℕ) where
-  pub read-short : length old < 410 → {n : ℕ} → n ≡ packed (refused shortImage 0)
-      → (n ≡ packed (counted (λ c. c .1) (readInto s old))) × ReadLeaves (readInto s old) s old old
+  pub read-short : length old < 410 → {n : ℕ} → n ≡ packed (refused shortImage 0) → (n ≡ readAnswer s old) × ReadLeaves s old old
   unfolding readInto
   read-short h p = told s old old (too-few 410 old (read s) h) p refl
 
-  module _ (h : 410 ≤ length old) (o : Outcome) (r : Record) (is : ofReading s o r ≡ read s) where
+  module _ (h : 410 ≤ length old) (o : Outcome) (r : Record) (is : Reads s o r) where
     found : {x : Outcome} → o ≡ x → ofReading s x r ≡ readInto s old
     unfolding readInto
-    found m = sym (ap (λ (y : Outcome). ofReading s y r) m) ∙ (is ∙ enough 410 old (read s) h)
+    found m = sym (ap (λ (y : Outcome). ofReading s y r) m) ∙ (is .is ∙ enough 410 old (read s) h)
 
-    pub read-refused : {k p : ℕ} → o ≡ Outcome.Refused k p → {n : ℕ} → n ≡ packed (refused k p)
-        → (n ≡ packed (counted (λ c. c .1) (readInto s old))) × ReadLeaves (readInto s old) s old old
+    pub read-refused : {k p : ℕ} → o ≡ Outcome.Refused k p → {n : ℕ} → n ≡ packed (refused k p) → (n ≡ readAnswer s old) × ReadLeaves s old old
     read-refused m p = told s old old (found m) p refl
 
-    pub read-filled : {k : ℕ} → o ≡ Outcome.Accepted k → AcceptedSound (length s) o r → {n : ℕ} {new : List ℕ} → n ≡ packed (got k) → (new ≡ splice old 0 (imageOf r)) × Whole r
-        → (n ≡ packed (counted (λ c. c .1) (readInto s old))) × ReadLeaves (readInto s old) s old new
-    read-filled m t {n} {new} p q = told s old new (found m) p (filled s old new r h q (subst (λ (y : Outcome). AcceptedSound (length s) y r) m t))
+    put : {new : List ℕ} → new ≡ imagePut old r → new ≡ splice old 0 (imageOf r)
+    unfolding imagePut pick
+    put e = rw (le-leb 410 (length old) h) at e
+
+    pub read-filled : {k : ℕ} → o ≡ Outcome.Accepted k → {n : ℕ} {new : List ℕ} → n ≡ packed (got k) → (new ≡ imagePut old r) × (410 ≤ length old → Whole r)
+        → (n ≡ readAnswer s old) × ReadLeaves s old new
+    read-filled m {n} {new} p (e, w) = told s old new (found m) p (record { said = r; reads = subst (λ (y : Outcome). Reads s y r) m is; whole = w h; image = put e })
+
+-- ---- what a read leaves, said of the image alone
+
+module _ (s old new : List ℕ) (n : ℕ) (h : 410 ≤ length old) (f : Filled s old new n) where
+  sized-image : length (imageOf (f .said)) ≡ 410
+  sized-image = image-length (f .said) (f .whole)
+
+  front : new ≡ imageOf (f .said) ++ drop 410 old
+  unfolding splice
+  front =
+      let n : length (imageOf (f .said)) ≡ 410 = sized-image in
+      let z : 0 + length (imageOf (f .said)) ≡ 410 = omega arith in
+      f .image ∙ rw z refl
+
+  -- the image's own record is the one that was read, and its words fit
+  pub read-back : recordOf new ≡ f .said
+  read-back = ap recordOf front ∙ record-back (f .said) (drop 410 old) (f .whole)
+
+  pub read-fits : wordsFit new ≡ true
+  read-fits = ap wordsFit front ∙ image-fits (f .said) (drop 410 old) (f .whole)
+
+  -- so all that is promised of a record read is promised of it: what it says, that it is well-shaped, where its parts lie
+  pub read-reads : Reads s (Outcome.Accepted n) (recordOf new)
+  read-reads = rw read-back (f .reads)
+
+  -- the words after the image, and how many there are in all
+  pub read-rest : drop 410 new ≡ drop 410 old
+  read-rest = ap (drop 410) front ∙ drop-at (imageOf (f .said)) (drop 410 old) 410 sized-image
+
+  pub read-length : length new ≡ length old
+  read-length = let z : length (imageOf (f .said)) ≡ 410 = sized-image in ap length (f .image) ∙ length-splice old 0 (imageOf (f .said)) (omega arith)

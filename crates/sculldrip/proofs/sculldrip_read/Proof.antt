@@ -29,13 +29,13 @@ word-requires-3 : tie.Need-word-requires-3
 word-requires-3 c κs = search needs
 
 returns-2 : tie.Need-returns-2
-returns-2 c = read-refused (c .before .before .before .before .before .before .before .before .before .args .extension .now) (c .before .before .before .before .before .before .before .before .before .args .image .now) (c .before .before .before .before .before .before .if1 .left) (c .before .before .before .before .before .read .result .outcome) (c .before .before .before .before .before .read .result .said) (c .before .before .before .before .before .read .ensures .0) (c .before .before .outcome .given .1) (c .word2 .ensures)
+returns-2 c = read-refused (c .before .before .before .before .before .before .before .before .before .args .extension .now) (c .before .before .before .before .before .before .before .before .before .args .image .now) (c .before .before .before .before .before .before .if1 .left) (c .before .before .before .before .before .read .result .outcome) (c .before .before .before .before .before .read .result .said) (record { is = c .before .before .before .before .before .read .ensures .0; empty = c .before .before .before .before .before .read .ensures .1 .0; sound = c .before .before .before .before .before .read .ensures .1 .1 }) (c .before .before .outcome .given .1) (c .word2 .ensures)
 
 same-length : tie.Need-same-length
 same-length c = search needs
 
 returns-3 : tie.Need-returns-3
-returns-3 c = read-filled (c .before .before .before .before .before .before .before .before .before .before .before .before .before .args .extension .now) (c .before .before .before .before .before .before .before .before .before .before .before .before .before .args .image .now) (c .before .before .before .before .before .before .before .before .before .before .if1 .left) (c .before .before .before .before .before .before .before .before .before .read .result .outcome) (c .before .before .before .before .before .before .before .before .before .read .result .said) (c .before .before .before .before .before .before .before .before .before .read .ensures .0) (c .before .before .before .before .before .before .outcome2 .given .1) (c .before .before .before .before .before .before .before .before .before .read .ensures .1 .1) (c .word3 .ensures) (c .before .before .before .put-image .ensures)
+returns-3 c = read-filled (c .before .before .before .before .before .before .before .before .before .before .before .before .before .args .extension .now) (c .before .before .before .before .before .before .before .before .before .before .before .before .before .args .image .now) (c .before .before .before .before .before .before .before .before .before .before .if1 .left) (c .before .before .before .before .before .before .before .before .before .read .result .outcome) (c .before .before .before .before .before .before .before .before .before .read .result .said) (record { is = c .before .before .before .before .before .before .before .before .before .read .ensures .0; empty = c .before .before .before .before .before .before .before .before .before .read .ensures .1 .0; sound = c .before .before .before .before .before .before .before .before .before .read .ensures .1 .1 }) (c .before .before .before .before .before .before .outcome2 .given .1) (c .word3 .ensures) (c .before .before .before .put-image .ensures)
 
 pub sculldrip-read-spec : {M : Type 1} → statement M
 sculldrip-read-spec =
