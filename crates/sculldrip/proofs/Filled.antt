@@ -1,7 +1,7 @@
 -- A read's answer is the defined one, and the image that it fills is that of the record read; what follows for the image's
 -- own record. Assumes nothing.
 use mathlib.Core.Path.{_≡_, refl, sym, ap, subst, _∙_}
-use mathlib.Core.Bool.{true}
+use mathlib.Core.Bool.{Bool, true, false, true≢false}
 use mathlib.Core.List.{List, _++_}
 use Prim.Native.Nat.{ℕ, _+_, _<_, _≤_}
 use native.Mathlib.Omega.{arith}
@@ -25,7 +25,7 @@ use Rattle.image.specs.Whole.{Whole}
 use Rattle.image.proofs.Puts.{image-length}
 use Rattle.image.proofs.RoundTrip.{record-back, image-fits}
 use Rattle.sculldrip.specs.Packed.{packed}
-use Rattle.sculldrip.specs.Calls.{counted, readInto, readAnswer, Filled, LeavesRead, ReadLeaves}
+use Rattle.sculldrip.specs.Calls.{counted, isAccepted, elementsOf, readInto, readAnswer, Filled, LeavesRead, ReadLeaves}
 use Rattle.sculldrip.proofs.Calls.{too-few, enough, numbered}
 
 -- both clauses, from the answer that they speak of
@@ -38,21 +38,23 @@ module _ (s old : List ℕ) where
   unfolding readInto
   read-short h p = told s old old (too-few 410 old (read s) h) p refl
 
-  module _ (h : 410 ≤ length old) (o : Outcome) (r : Record) (is : Reads s o r) where
-    found : {x : Outcome} → o ≡ x → ofReading s x r ≡ readInto s old
+  module _ (h : 410 ≤ length old) (r : Record) where
+    found : (o : Outcome) → Reads s o r → ofReading s o r ≡ readInto s old
     unfolding readInto
-    found m = sym (ap (λ (y : Outcome). ofReading s y r) m) ∙ (is .is ∙ enough 410 old (read s) h)
-
-    pub read-refused : {k p : ℕ} → o ≡ Outcome.Refused k p → {n : ℕ} → n ≡ packed (refused k p) → (n ≡ readAnswer s old) × ReadLeaves s old old
-    read-refused m p = told s old old (found m) p refl
+    found o is = is .is ∙ enough 410 old (read s) h
 
     put : {new : List ℕ} → new ≡ imagePut old r → new ≡ splice old 0 (imageOf r)
     unfolding imagePut pick
     put e = rw (le-leb 410 (length old) h) at e
 
-    pub read-filled : {k : ℕ} → o ≡ Outcome.Accepted k → {n : ℕ} {new : List ℕ} → n ≡ packed (got k) → (new ≡ imagePut old r) × (410 ≤ length old → Whole r)
+    pub read-refused : (o : Outcome) → Reads s o r → {b : Bool} → b ≡ isAccepted o → b ≡ false → {n : ℕ} → n ≡ packed (elementsOf o) → (n ≡ readAnswer s old) × ReadLeaves s old old
+    read-refused (Outcome.Accepted k) is e f p = absurd (true≢false (sym e ∙ f))
+    read-refused (Outcome.Refused k q) is e f p = told s old old (found (Outcome.Refused k q) is) p refl
+
+    pub read-filled : (o : Outcome) → Reads s o r → {b : Bool} → b ≡ isAccepted o → b ≡ true → {n : ℕ} {new : List ℕ} → n ≡ packed (elementsOf o) → (new ≡ imagePut old r) × (410 ≤ length old → Whole r)
         → (n ≡ readAnswer s old) × ReadLeaves s old new
-    read-filled m {n} {new} p (e, w) = told s old new (found m) p (record { said = r; reads = subst (λ (y : Outcome). Reads s y r) m is; whole = w h; image = put e })
+    read-filled (Outcome.Accepted k) is e f {n} {new} p (q, w) = told s old new (found (Outcome.Accepted k) is) p (record { said = r; reads = is; whole = w h; image = put q })
+    read-filled (Outcome.Refused k q) is e f p z = absurd (true≢false (sym f ∙ e))
 
 -- ---- what a read leaves, said of the image alone
 

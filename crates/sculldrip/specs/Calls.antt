@@ -2,7 +2,7 @@
 -- against. Slices that are too short come first (200), then an image that is of no record (20); a refusal changes nothing.
 -- Statements has what is proved of these answers.
 use mathlib.Core.Path.{_≡_}
-use mathlib.Core.Bool.{Bool, not}
+use mathlib.Core.Bool.{Bool, true, false, not}
 use mathlib.Core.Option.{Option, none, some}
 use mathlib.Core.List.{List, [], _∷_}
 use Prim.Native.Nat.{ℕ}
@@ -57,6 +57,15 @@ readInto s image = atLeast 410 image (read s)
 
 abbrev pub readAnswer : List ℕ → List ℕ → ℕ
 readAnswer s image = packed (counted (λ c. c .1) (readInto s image))
+
+-- a read's outcome: whether there is a record, and its count of elements
+abbrev pub isAccepted : Outcome → Bool
+isAccepted (Outcome.Accepted n) = true
+isAccepted (Outcome.Refused number place) = false
+
+abbrev pub elementsOf : Outcome → Answer ℕ
+elementsOf (Outcome.Accepted n) = got n
+elementsOf (Outcome.Refused number place) = refused number place
 
 -- the words of a record as the code has it, of which all holds that is promised of a record read from s with n elements
 -- (reader Reading: what it says, that it is well-shaped, where its parts lie), at the front; the words after them stay

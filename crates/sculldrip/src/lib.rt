@@ -23,7 +23,7 @@ ghost use lib.ListN.{length};
 ghost use Rattle.extension_text.specs.Bytes.{extensionLeft};
 ghost use Rattle.listing.specs.Room.{ofListed};
 ghost use Rattle.sculldrip.specs.Packed.{packed};
-ghost use Rattle.sculldrip.specs.Calls.{interfaceVersion, readAnswer, ReadLeaves, writeAnswer, writeLeaves, askAnswer, askLeaves, requestOf, ruleAnswer, ruleLeaves, enrolAnswer, listAnswer};
+ghost use Rattle.sculldrip.specs.Calls.{interfaceVersion, isAccepted, elementsOf, readAnswer, ReadLeaves, writeAnswer, writeLeaves, askAnswer, askLeaves, requestOf, ruleAnswer, ruleLeaves, enrolAnswer, listAnswer};
 
 // The interface's version, as SCULLDRIP_VERSION in the header.
 #[no_mangle]
@@ -31,6 +31,24 @@ pub extern "C" fn sculldrip_version() -> u64
     ensures { λ a. ⌜ a ≡ interfaceVersion ⌝ }
 {
     2
+}
+
+fn is_accepted(outcome: Outcome) -> bool
+    ensures { λ b. ⌜ b ≡ isAccepted outcome ⌝ }
+{
+    match outcome {
+        Outcome::Accepted(_) => true,
+        Outcome::Refused(_, _) => false,
+    }
+}
+
+fn read_word(outcome: Outcome) -> u64
+    ensures { λ a. ⌜ a ≡ packed (elementsOf outcome) ⌝ }
+{
+    match outcome {
+        Outcome::Accepted(count) => word(0, count),
+        Outcome::Refused(number, place) => word(number, place),
+    }
 }
 
 // Reads an extension into an image.
@@ -45,13 +63,11 @@ pub extern "C" fn sculldrip_read(extension: &[u8], image: &mut [u64]) -> u64
     let reading = reader::read(extension);
     let said = reading.said;
     let outcome = reading.outcome;
-    match outcome {
-        Outcome::Refused(number, place) => word(number, place),
-        Outcome::Accepted(count) => {
-            put_image(image, said);
-            word(0, count)
-        }
+    if is_accepted(outcome) {
+        put_image(image, said);
+        return read_word(outcome);
     }
+    read_word(outcome)
 }
 
 // Writes the one encoding of an image's record at the front of the output.
