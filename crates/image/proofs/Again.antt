@@ -2,13 +2,13 @@
 use mathlib.Core.Path.{_≡_, ap, sym, _∙_}
 use mathlib.Core.List.{List, _++_}
 use Prim.Native.Nat.{ℕ}
-use lib.ListN.{take, drop}
+use lib.ListN.{take}
 use lib.Seq.{take-at}
 use Rattle.records.specs.declared.Record.{Record}
 use Rattle.image.specs.Image.{imageOf, recordOf}
-use Rattle.image.specs.Whole.{Whole}
+use Rattle.image.specs.Statements.{ImageAgain}
 use Rattle.image.proofs.Puts.{image-length}
 use Rattle.image.proofs.RoundTrip.{record-back}
 
-pub image-again : (w : List ℕ) (r : Record) (rest : List ℕ) → Whole r → w ≡ imageOf r ++ rest → imageOf (recordOf w) ≡ take 410 w
+pub image-again : ImageAgain
 image-again w r rest h e = rw e (ap imageOf (record-back r rest h) ∙ sym (take-at (imageOf r) rest 410 (image-length r h)))

@@ -5,3 +5,5 @@ pub mod Puts
 pub mod RoundTrip
 pub mod Imaging
 pub mod Again
+pub mod Alike
+pub mod Agree

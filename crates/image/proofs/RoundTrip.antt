@@ -21,6 +21,7 @@ use Rattle.records.specs.declared.FieldList.{FieldList}
 use Rattle.records.specs.declared.Record.{Record}
 use Rattle.image.specs.Image.{flagWord, isSet, low, slotsBelow, setWords, rootWords, setsWords, listWords, headWords, imageOf, setFrom, rootFrom, listFrom, recordOf, flagAt, narrowAt, setFits, rootFits, listFits, wordsFit}
 use Rattle.image.specs.Whole.{WholeMembers, WholeSets, WholeList, WholeHead, Whole}
+use Rattle.image.specs.Statements.{RecordBack}
 use Rattle.image.proofs.Parts.{set-made, root-made, list-made, record-made}
 use Rattle.image.proofs.Puts.{set-length, list-length}
 use Rattle.image.proofs.Fits.{all-at-most, list-tests}
@@ -59,9 +60,13 @@ members-back l w =
     ext-getD 0 (map low l) l n
     (λ i q. List·getD-map low l i 0 ∙ low-same (getD l i 0) (all-at-most l 16 i top32 (omega (arith, n, w .sized)) (w .narrow)))
 
-slots-few : (n : ℕ) → slotsBelow n ≤ 16
+pub slots-few : (n : ℕ) → slotsBelow n ≤ 16
 unfolding pick
 slots-few n = by-le 16 n (λ h. rw (le-ltb n 16 h) (omega arith)) (λ h. rw (lt-ltb n 16 h) (omega arith))
+
+pub slots-count : (n : ℕ) → slotsBelow n ≤ n
+unfolding pick
+slots-count n = by-le 16 n (λ h. rw (le-ltb n 16 h) h) (λ h. rw (lt-ltb n 16 h) (omega arith))
 
 fits-any : (flag : ℕ) (b : Bool) → b ≡ true → pick (isSet flag) b true ≡ true
 unfolding pick
@@ -199,10 +204,9 @@ module _ (r : Record) (rest : List ℕ) (w : Whole r) where
   past-software : drop 209 image ≡ listWords (r .hardware) ++ rest
   past-software = past 8 201 image (listWords (r .software)) (listWords (r .hardware) ++ rest) past-head (list-length (r .software) (w .software))
 
-  -- "record → image → record"
-  pub record-back : recordOf (imageOf r ++ rest) ≡ r
+  read-back : recordOf (imageOf r ++ rest) ≡ r
   unfolding recordOf headWords
-  record-back =
+  read-back =
       let h = w .head in
       rw opened
       (sym (record-made (headWords r ++ (listWords (r .software) ++ (listWords (r .hardware) ++ rest)))
@@ -220,3 +224,6 @@ module _ (r : Record) (rest : List ℕ) (w : Whole r) where
         ap listFits past-head ∙ list-fits (r .software) (listWords (r .hardware) ++ rest) (w .software),
         ap listFits past-software ∙ list-fits (r .hardware) rest (w .hardware),
       ) refl
+
+pub record-back : RecordBack
+record-back r rest w = read-back r rest w
