@@ -5,7 +5,6 @@ use mathlib.Core.Bool.{Bool, true, false, true≢false}
 use mathlib.Core.List.{List, _++_}
 use Prim.Native.Nat.{ℕ, _+_, _<_, _≤_}
 use native.Mathlib.Omega.{arith}
-use lib.Dec.{T}
 use lib.ListN.{length, drop}
 use lib.Seq.{drop-at}
 use borrow.Author.Tests.{le-leb}
@@ -16,8 +15,6 @@ use Rattle.codec.proofs.Splice.{length-splice}
 use Rattle.schema.specs.Content.{Content}
 use Rattle.schema.specs.Decode.{read}
 use Rattle.records.specs.declared.Record.{Record}
-use Rattle.records.specs.Shape.{wellShapedRecord}
-use Rattle.records.specs.Parts.{partsInside}
 use Rattle.reader.specs.declared.Outcome.{Outcome}
 use Rattle.reader.specs.Reading.{ofReading, Reads}
 use Rattle.image.specs.Image.{imageOf, recordOf, wordsFit, imagePut}
@@ -26,6 +23,7 @@ use Rattle.image.proofs.Puts.{image-length}
 use Rattle.image.proofs.RoundTrip.{record-back, image-fits}
 use Rattle.sculldrip.specs.Packed.{packed}
 use Rattle.sculldrip.specs.Calls.{counted, isAccepted, elementsOf, readInto, readAnswer, Filled, LeavesRead, ReadLeaves}
+use Rattle.sculldrip.specs.Statements.{ReadImage, ReadBack}
 use Rattle.sculldrip.proofs.Calls.{too-few, enough, numbered}
 
 -- both clauses, from the answer that they speak of
@@ -69,20 +67,18 @@ module _ (s old new : List ℕ) (n : ℕ) (h : 410 ≤ length old) (f : Filled s
       let z : 0 + length (imageOf (f .said)) ≡ 410 = omega arith in
       f .image ∙ rw z refl
 
-  -- the image's own record is the one that was read, and its words fit
-  pub read-back : recordOf new ≡ f .said
-  read-back = ap recordOf front ∙ record-back (f .said) (drop 410 old) (f .whole)
+  own : recordOf new ≡ f .said
+  own = ap recordOf front ∙ record-back (f .said) (drop 410 old) (f .whole)
 
-  pub read-fits : wordsFit new ≡ true
-  read-fits = ap wordsFit front ∙ image-fits (f .said) (drop 410 old) (f .whole)
+  read-image : ReadImage s old new n
+  read-image =
+      let z : length (imageOf (f .said)) ≡ 410 = sized-image in
+      record {
+        reads = rw own (f .reads);
+        fits = ap wordsFit front ∙ image-fits (f .said) (drop 410 old) (f .whole);
+        rest = ap (drop 410) front ∙ drop-at (imageOf (f .said)) (drop 410 old) 410 sized-image;
+        sized = ap length (f .image) ∙ length-splice old 0 (imageOf (f .said)) (omega arith);
+      }
 
-  -- so all that is promised of a record read is promised of it: what it says, that it is well-shaped, where its parts lie
-  pub read-reads : Reads s (Outcome.Accepted n) (recordOf new)
-  read-reads = rw read-back (f .reads)
-
-  -- the words after the image, and how many there are in all
-  pub read-rest : drop 410 new ≡ drop 410 old
-  read-rest = ap (drop 410) front ∙ drop-at (imageOf (f .said)) (drop 410 old) 410 sized-image
-
-  pub read-length : length new ≡ length old
-  read-length = let z : length (imageOf (f .said)) ≡ 410 = sized-image in ap length (f .image) ∙ length-splice old 0 (imageOf (f .said)) (omega arith)
+pub read-back : ReadBack
+read-back s old new n h f = read-image s old new n h f

@@ -2,3 +2,4 @@ pub mod Unpacked
 pub mod Calls
 pub mod Filled
 pub mod Numbers
+pub mod Same
