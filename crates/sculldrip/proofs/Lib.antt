@@ -1,5 +1,5 @@
 pub mod Unpacked
 pub mod Calls
-pub mod Filled
+pub mod ImageRead
 pub mod Numbers
 pub mod Same

@@ -69,7 +69,7 @@ elementsOf (Outcome.Refused number place) = refused number place
 
 -- the words of a record as the code has it, of which all holds that is promised of a record read from s with n elements
 -- (reader Reading: what it says, that it is well-shaped, where its parts lie), at the front; the words after them stay
-pub record Filled (s old new : List ℕ) (n : ℕ) : Type 0 where
+pub record ImageOfRead (s old new : List ℕ) (n : ℕ) : Type 0 where
   pub said : Record
   pub reads : Reads s (Outcome.Accepted n) said
   pub whole : Whole said
@@ -77,7 +77,7 @@ pub record Filled (s old new : List ℕ) (n : ℕ) : Type 0 where
 
 -- what a read of s with this answer leaves of an image
 abbrev pub LeavesRead : Answer (Content × ℕ) → List ℕ → List ℕ → List ℕ → Type 0
-LeavesRead (got c) s old new = Filled s old new (c .1)
+LeavesRead (got c) s old new = ImageOfRead s old new (c .1)
 LeavesRead (refused number place) s old new = new ≡ old
 
 abbrev pub ReadLeaves : List ℕ → List ℕ → List ℕ → Type 0

@@ -1,6 +1,6 @@
 -- What is proved of the answers of include/sculldrip.h, beyond that they are those of Calls. Read first WriteAnswers and its
 -- neighbours: which numbers a caller can meet (proofs/Numbers.antt); then SameWritten and its neighbours: what is not looked
--- at does not matter (proofs/Same.antt); then ReadBack: what stands in an image after a read (proofs/Filled.antt).
+-- at does not matter (proofs/Same.antt); then ReadBack: what stands in an image after a read (proofs/ImageRead.antt).
 use mathlib.Core.Path.{_≡_}
 use mathlib.Core.Bool.{Bool, true, false, _||_}
 use mathlib.Core.List.{List, [], _∷_}
@@ -11,7 +11,7 @@ use Rattle.reader.specs.declared.Outcome.{Outcome}
 use Rattle.reader.specs.Reading.{Reads}
 use Rattle.image.specs.Image.{recordOf, wordsFit}
 use Rattle.image.specs.Agree.{Agree}
-use Rattle.sculldrip.specs.Calls.{Filled, writeAnswer, writeLeaves, askAnswer, askLeaves, listAnswer}
+use Rattle.sculldrip.specs.Calls.{ImageOfRead, writeAnswer, writeLeaves, askAnswer, askLeaves, listAnswer}
 
 -- "Its low byte is 0 where the function did what it is for .. else the low byte is the refusal's number"
 abbrev pub lowByte : ℕ → ℕ
@@ -61,4 +61,4 @@ pub record ReadImage (s old new : List ℕ) (n : ℕ) : Type 0 where
   pub sized : length new ≡ length old
 
 abbrev pub ReadBack : Type 0
-ReadBack = (s old new : List ℕ) (n : ℕ) → 410 ≤ length old → Filled s old new n → ReadImage s old new n
+ReadBack = (s old new : List ℕ) (n : ℕ) → 410 ≤ length old → ImageOfRead s old new n → ReadImage s old new n

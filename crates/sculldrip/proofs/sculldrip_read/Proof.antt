@@ -1,5 +1,5 @@
 -- `sculldrip_read` meets its contract: the answer is the reader's, and the image that of its record. Assumes nothing.
-use Rattle.sculldrip.proofs.Filled.{read-short, read-refused, read-filled}
+use Rattle.sculldrip.proofs.ImageRead.{read-short, read-refused, read-filled}
 use borrow.Author.Needs.{needs}
 use Rattle.sculldrip.proofs.sculldrip_read.Statement.{statement}
 use Rattle.sculldrip.proofs.sculldrip_read.Tie as tie

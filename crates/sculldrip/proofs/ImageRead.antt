@@ -22,7 +22,7 @@ use Rattle.image.specs.Whole.{Whole}
 use Rattle.image.proofs.Puts.{image-length}
 use Rattle.image.proofs.RoundTrip.{record-back, image-fits}
 use Rattle.sculldrip.specs.Packed.{packed}
-use Rattle.sculldrip.specs.Calls.{counted, isAccepted, elementsOf, readInto, readAnswer, Filled, LeavesRead, ReadLeaves}
+use Rattle.sculldrip.specs.Calls.{counted, isAccepted, elementsOf, readInto, readAnswer, ImageOfRead, LeavesRead, ReadLeaves}
 use Rattle.sculldrip.specs.Statements.{ReadImage, ReadBack}
 use Rattle.sculldrip.proofs.Calls.{too-few, enough, numbered}
 
@@ -56,7 +56,7 @@ module _ (s old : List ℕ) where
 
 -- ---- what a read leaves, said of the image alone
 
-module _ (s old new : List ℕ) (n : ℕ) (h : 410 ≤ length old) (f : Filled s old new n) where
+module _ (s old new : List ℕ) (n : ℕ) (h : 410 ≤ length old) (f : ImageOfRead s old new n) where
   sized-image : length (imageOf (f .said)) ≡ 410
   sized-image = image-length (f .said) (f .whole)
 
