@@ -2,16 +2,16 @@
 -- neighbours: which numbers a caller can meet (proofs/Numbers.antt); then SameWritten and its neighbours: what is not looked
 -- at does not matter (proofs/Same.antt); then ReadBack: what stands in an image after a read (proofs/ImageRead.antt).
 use mathlib.Core.Path.{_≡_}
-use mathlib.Core.Bool.{Bool, true, false, _||_}
+use mathlib.Core.Bool.{Bool, true, false, _&&_, _||_}
 use mathlib.Core.List.{List, [], _∷_}
 use Prim.Native.Nat.{ℕ, _%_, _≤_}
-use lib.Dec.{T, eqb}
+use lib.Dec.{T, eqb, leb}
 use lib.ListN.{length, drop}
 use Rattle.reader.specs.declared.Outcome.{Outcome}
 use Rattle.reader.specs.Reading.{Reads}
 use Rattle.image.specs.Image.{recordOf, wordsFit}
 use Rattle.image.specs.Agree.{Agree}
-use Rattle.sculldrip.specs.Calls.{ImageOfRead, writeAnswer, writeLeaves, askAnswer, askLeaves, listAnswer}
+use Rattle.sculldrip.specs.Calls.{ImageOfRead, writeAnswer, writeLeaves, askAnswer, askLeaves, ruleAnswer, enrolAnswer, listAnswer}
 
 -- "Its low byte is 0 where the function did what it is for .. else the low byte is the refusal's number"
 abbrev pub lowByte : ℕ → ℕ
@@ -30,6 +30,20 @@ abbrev pub OctetsAnswers : Type 0
 OctetsAnswers =
     (image : List ℕ) (hardware number len : ℕ) (part : List ℕ)
     → T (oneOf (0 ∷ 20 ∷ 200 ∷ []) (lowByte (askAnswer image hardware number len part)))
+
+-- "Refusals 20 and 30 to 46, and 200"
+abbrev pub ruleNumber : ℕ → Bool
+ruleNumber n = oneOf (0 ∷ 20 ∷ 200 ∷ []) n || (leb 30 n && leb n 46)
+
+abbrev pub RuleAnswers : Type 0
+RuleAnswers = (image request permit : List ℕ) → T (ruleNumber (lowByte (ruleAnswer image request permit)))
+
+-- "Refusals 20 and 50 to 55, and 200"
+abbrev pub enrolNumber : ℕ → Bool
+enrolNumber n = oneOf (0 ∷ 20 ∷ 200 ∷ []) n || (leb 50 n && leb n 55)
+
+abbrev pub EnrolAnswers : Type 0
+EnrolAnswers = (image s expected : List ℕ) → T (enrolNumber (lowByte (enrolAnswer image s expected)))
 
 -- ".. or the answer is 21"
 abbrev pub ListAnswers : Type 0
