@@ -1,49 +1,31 @@
 // Reads one extension from standard input and writes its listing (document 01, "One extension, whole"), once. The input
 // stands in one buffer of 8,193 zeros, so that one byte too many is seen.
+use extension_text::list_bytes;
 use libc::STDIN_FILENO;
 use libc::STDOUT_FILENO;
 use listing::Listed;
-use reader::Outcome;
 ghost use mathlib.Core.Path.{_≡_};
-ghost use Rattle.listing.specs.Room.{ofListed};
-ghost use Rattle.list_extension.specs.Written.{extensionListed, extensionLeft, written};
+ghost use Prim.Native.Nat.{_≤_};
+ghost use lib.ListN.{length};
+ghost use Rattle.codec.specs.Octets.{splice};
+ghost use Rattle.list_extension.specs.Shown.{shown};
 
-// Lists the bytes s at the front of out.
-fn list_bytes(s: &[u8], out: &mut [u8]) -> Listed
-    ensures answer { λ r. ⌜ ofListed r ≡ extensionListed (now (s .entry)) (now (out .entry)) ⌝ }
-    ensures output { λ r. ⌜ now (out .exit) ≡ extensionLeft (now (s .entry)) (now (out .entry)) ⌝ }
+// The whole listing of any bytes s, at the front of a text that is never short; how long it is.
+fn list_whole(s: &[u8], text: &mut [u8; 491520]) -> usize
+    ensures answer { λ n. ⌜ n ≡ length (shown (now (s .entry))) ⌝ }
+    ensures output { λ n. ⌜ now (text .exit) ≡ splice (now (text .entry)) 0 (shown (now (s .entry))) ⌝ }
+    ensures inside { λ n. ⌜ n ≤ length (now (text .exit)) ⌝ }
 {
-    let reading = reader::read(s);
-    let said = reading.said;
-    let outcome = reading.outcome;
-    match outcome {
-        Outcome::Accepted(n) => listing::list_record(said, n, s, out),
-        Outcome::Refused(k, place) => listing::list_refusal(k, place, out),
-    }
-}
-
-// How many octets a listing wrote: none where its output was short.
-fn octets_written(listed: Listed) -> usize
-    ensures { λ r. ⌜ r ≡ written listed ⌝ }
-{
-    match listed {
+    match list_bytes(s, text) {
         Listed::Wrote(n) => n,
         Listed::Short => 0,
     }
 }
 
-// Writes the first n octets of text to standard output, once.
-fn show(text: &[u8], n: usize) {
-    if n <= text.len() {
-        io::write_all(STDOUT_FILENO, &text[..n]);
-    }
-}
-
-// The text has the room that listing 8,193 bytes asks for, so it is never short.
 fn main() {
     let mut input = [0u8; 8193];
-    let mut text = [0u8; 491576];
+    let mut text = [0u8; 491520];
     let n = io::read_full(STDIN_FILENO, &mut input);
-    let listed = list_bytes(&input[..n], &mut text);
-    show(&text, octets_written(listed));
+    let m = list_whole(&input[..n], &mut text);
+    io::write_all(STDOUT_FILENO, &text[..m]);
 }

@@ -24,6 +24,6 @@ puts o [] = o
 puts o (b ∷ bs) = puts (put o b) bs
 
 -- the text, of at most `most` octets, was put at the place p of old, and left new and the place q
-pub record Puts (old : List ℕ) (p : ℕ) (text : List ℕ) (most : ℕ) (new : List ℕ) (q : ℕ) : Type 0 where
+pub record PutsText (old : List ℕ) (p : ℕ) (text : List ℕ) (most : ℕ) (new : List ℕ) (q : ℕ) : Type 0 where
   pub is : output new q ≡ puts (output old p) text
   pub few : length text ≤ most

@@ -1,7 +1,8 @@
 // The listing of a record or a refusal as text (document 01, "One extension, whole"), put into a lent output.
 //
 // Each put function writes its text from a place on, nothing past the output's end, and answers the next place. Its
-// contract, Puts, also bounds the text's length, so that list_record knows without counting when all of it fits.
+// contract, PutsText or one that specs/Lines.antt names, also bounds the text's length, so that list_record knows without
+// counting when all of it fits.
 use records::FieldList;
 use records::NumberSet;
 use records::Part;
@@ -15,16 +16,15 @@ ghost use mathlib.Core.Path.{_≡_};
 ghost use mathlib.Core.List.{[], _∷_};
 ghost use Prim.Native.Nat.{_+_, _*_, _<_, _≤_};
 ghost use lib.ListN.{length, drop};
-ghost use Rattle.codec.specs.Octets.{left};
-ghost use Rattle.schema.specs.Rows.{ofKind};
-ghost use Rattle.records.specs.Content.{partOf, membersOf, rootOf, valueAt, fieldsOf, contentOf};
-ghost use Rattle.listing.specs.Text.{dash, decimal, hexDigit, hexText, octetsText, moreNumbers, numbersText, lockedText, stateText, rootText, valueText, named, numbersLine, octetsLine, fieldLine, fieldLines, countLine, headText, contentText, refusalText};
-ghost use Rattle.listing.specs.Put.{Puts};
-ghost use Rattle.listing.specs.Room.{parts, fieldOf, lineRoom, needed, refusalNeeded, ofListed, listed};
+ghost use Rattle.records.specs.Content.{partOf, membersOf, rootOf};
+ghost use Rattle.listing.specs.Text.{dash, decimal, hexDigit, hexText, octetsText, moreNumbers, numbersText, lockedText, stateText, rootText, named, countLine};
+ghost use Rattle.listing.specs.Put.{PutsText};
+ghost use Rattle.listing.specs.Room.{ofListed};
+ghost use Rattle.listing.specs.Lines.{PutsNumbers, PutsOctets, PutsValue, PutsField, PutsList, PutsHead, PutsRecord, recordListed, recordLeft, refusalListed, refusalLeft};
 
 // One octet at at, unless that is past the end; the next place.
 fn put_octet(out: &mut [u8], at: usize, b: u8) -> usize
-    ensures { λ r. ⌜ Puts (now (out .entry)) at (b ∷ []) 1 (now (out .exit)) r ⌝ }
+    ensures { λ r. ⌜ PutsText (now (out .entry)) at (b ∷ []) 1 (now (out .exit)) r ⌝ }
 {
     if at < out.len() {
         out[at] = b;
@@ -35,7 +35,7 @@ fn put_octet(out: &mut [u8], at: usize, b: u8) -> usize
 
 // All of text.
 fn put_text(out: &mut [u8], at: usize, text: &[u8]) -> usize
-    ensures { λ r. ⌜ Puts (now (out .entry)) at (now (text .entry)) (length (now (text .entry))) (now (out .exit)) r ⌝ }
+    ensures { λ r. ⌜ PutsText (now (out .entry)) at (now (text .entry)) (length (now (text .entry))) (now (out .exit)) r ⌝ }
 {
     let mut p = at;
     let mut i: usize = 0;
@@ -48,7 +48,7 @@ fn put_text(out: &mut [u8], at: usize, text: &[u8]) -> usize
 
 // A number in decimal.
 fn put_decimal(out: &mut [u8], at: usize, n: u64) -> usize
-    ensures { λ r. ⌜ Puts (now (out .entry)) at (decimal n) 20 (now (out .exit)) r ⌝ }
+    ensures { λ r. ⌜ PutsText (now (out .entry)) at (decimal n) 20 (now (out .exit)) r ⌝ }
 {
     if n < 10 {
         return put_octet(out, at, b'0' + n as u8);
@@ -67,7 +67,7 @@ fn hex_digit(n: u8) -> u8
 
 // Octets as lower-case hex.
 fn put_hex(out: &mut [u8], at: usize, s: &[u8]) -> usize
-    ensures { λ r. ⌜ Puts (now (out .entry)) at (hexText (now (s .entry))) (2 * length (now (s .entry))) (now (out .exit)) r ⌝ }
+    ensures { λ r. ⌜ PutsText (now (out .entry)) at (hexText (now (s .entry))) (2 * length (now (s .entry))) (now (out .exit)) r ⌝ }
 {
     let mut p = at;
     let mut i: usize = 0;
@@ -82,14 +82,14 @@ fn put_hex(out: &mut [u8], at: usize, s: &[u8]) -> usize
 
 // What stands for empty octets or an empty set.
 fn put_none(out: &mut [u8], at: usize) -> usize
-    ensures { λ r. ⌜ Puts (now (out .entry)) at dash 1 (now (out .exit)) r ⌝ }
+    ensures { λ r. ⌜ PutsText (now (out .entry)) at dash 1 (now (out .exit)) r ⌝ }
 {
     put_text(out, at, b"-")
 }
 
 // A part of s, "-" where it has no octets. What lies outside s is left out.
 fn put_part(out: &mut [u8], at: usize, s: &[u8], part: Part) -> usize
-    ensures { λ r. ⌜ Puts (now (out .entry)) at (octetsText (partOf (now (s .entry)) part)) (2 * length (now (s .entry)) + 1) (now (out .exit)) r ⌝ }
+    ensures { λ r. ⌜ PutsText (now (out .entry)) at (octetsText (partOf (now (s .entry)) part)) (2 * length (now (s .entry)) + 1) (now (out .exit)) r ⌝ }
 {
     let start = part.start;
     let len = part.len;
@@ -110,7 +110,7 @@ fn put_part(out: &mut [u8], at: usize, s: &[u8], part: Part) -> usize
 // The members of a set after its first, as many as its count and its slots allow, each after a space.
 fn put_more(out: &mut [u8], at: usize, g: NumberSet) -> usize
     requires { ⌜ 0 < g .count ⌝ }
-    ensures { λ r. ⌜ Puts (now (out .entry)) at (moreNumbers (drop 1 (membersOf g))) 315 (now (out .exit)) r ⌝ }
+    ensures { λ r. ⌜ PutsText (now (out .entry)) at (moreNumbers (drop 1 (membersOf g))) 315 (now (out .exit)) r ⌝ }
 {
     let members = g.members;
     let count = g.count;
@@ -129,7 +129,7 @@ fn put_more(out: &mut [u8], at: usize, g: NumberSet) -> usize
 
 // The members of a set, "-" where it has none.
 fn put_set(out: &mut [u8], at: usize, g: NumberSet) -> usize
-    ensures { λ r. ⌜ Puts (now (out .entry)) at (numbersText (membersOf g)) 335 (now (out .exit)) r ⌝ }
+    ensures { λ r. ⌜ PutsText (now (out .entry)) at (numbersText (membersOf g)) 335 (now (out .exit)) r ⌝ }
 {
     if g.count == 0 {
         return put_none(out, at);
@@ -148,7 +148,7 @@ fn locked_digit(locked: bool) -> u8
 
 // A root of trust's locked and state, each after a space.
 fn put_state(out: &mut [u8], at: usize, locked: bool, state: u32) -> usize
-    ensures { λ r. ⌜ Puts (now (out .entry)) at (stateText locked state) 23 (now (out .exit)) r ⌝ }
+    ensures { λ r. ⌜ PutsText (now (out .entry)) at (stateText locked state) 23 (now (out .exit)) r ⌝ }
 {
     let p = put_octet(out, at, b' ');
     let q = put_octet(out, p, locked_digit(locked));
@@ -158,7 +158,7 @@ fn put_state(out: &mut [u8], at: usize, locked: bool, state: u32) -> usize
 
 // Field 704: key, locked, state and, where there is one, hash.
 fn put_root(out: &mut [u8], at: usize, s: &[u8], root: RootOfTrust) -> usize
-    ensures { λ r. ⌜ Puts (now (out .entry)) at (rootText (rootOf (now (s .entry)) root)) (4 * length (now (s .entry)) + 26) (now (out .exit)) r ⌝ }
+    ensures { λ r. ⌜ PutsText (now (out .entry)) at (rootText (rootOf (now (s .entry)) root)) (4 * length (now (s .entry)) + 26) (now (out .exit)) r ⌝ }
 {
     let p = put_part(out, at, s, root.key);
     let q = put_state(out, p, root.locked, root.state);
@@ -171,7 +171,7 @@ fn put_root(out: &mut [u8], at: usize, s: &[u8], root: RootOfTrust) -> usize
 
 // A number after its word.
 fn put_named(out: &mut [u8], at: usize, word: &[u8], n: u64) -> usize
-    ensures { λ r. ⌜ Puts (now (out .entry)) at (named (now (word .entry)) n) (length (now (word .entry)) + 20) (now (out .exit)) r ⌝ }
+    ensures { λ r. ⌜ PutsText (now (out .entry)) at (named (now (word .entry)) n) (length (now (word .entry)) + 20) (now (out .exit)) r ⌝ }
 {
     let p = put_text(out, at, word);
     put_decimal(out, p, n)
@@ -179,7 +179,7 @@ fn put_named(out: &mut [u8], at: usize, word: &[u8], n: u64) -> usize
 
 // A line of two numbers, each after its word.
 fn put_numbers(out: &mut [u8], at: usize, first: &[u8], a: u64, second: &[u8], b: u64) -> usize
-    ensures { λ r. ⌜ Puts (now (out .entry)) at (numbersLine (now (first .entry)) a (now (second .entry)) b) (length (now (first .entry)) + length (now (second .entry)) + 41) (now (out .exit)) r ⌝ }
+    ensures { λ r. ⌜ PutsNumbers (now (out .entry)) at (now (first .entry)) a (now (second .entry)) b (now (out .exit)) r ⌝ }
 {
     let p = put_named(out, at, first, a);
     let q = put_named(out, p, second, b);
@@ -188,7 +188,7 @@ fn put_numbers(out: &mut [u8], at: usize, first: &[u8], a: u64, second: &[u8], b
 
 // A line of a part of s, after its word.
 fn put_octets(out: &mut [u8], at: usize, word: &[u8], s: &[u8], part: Part) -> usize
-    ensures { λ r. ⌜ Puts (now (out .entry)) at (octetsLine (now (word .entry)) (partOf (now (s .entry)) part)) (length (now (word .entry)) + 2 * length (now (s .entry)) + 2) (now (out .exit)) r ⌝ }
+    ensures { λ r. ⌜ PutsOctets (now (out .entry)) at (now (word .entry)) (now (s .entry)) part (now (out .exit)) r ⌝ }
 {
     let p = put_text(out, at, word);
     let q = put_part(out, p, s, part);
@@ -198,7 +198,7 @@ fn put_octets(out: &mut [u8], at: usize, word: &[u8], s: &[u8], part: Part) -> u
 // The value of a row of a list, by its kind.
 fn put_value(out: &mut [u8], at: usize, s: &[u8], l: FieldList, place: usize, row: Row) -> usize
     requires { ⌜ place < 42 ⌝ }
-    ensures { λ r. ⌜ Puts (now (out .entry)) at (valueText (valueAt l (now (s .entry)) (row .number) (ofKind (row .kind)) place)) (335 + parts (ofKind (row .kind)) * length (now (s .entry))) (now (out .exit)) r ⌝ }
+    ensures { λ r. ⌜ PutsValue (now (out .entry)) at (now (s .entry)) l place row (now (out .exit)) r ⌝ }
 {
     let kind = row.kind;
     match kind {
@@ -222,7 +222,7 @@ fn put_value(out: &mut [u8], at: usize, s: &[u8], l: FieldList, place: usize, ro
 // The line of a present row, after its list's word.
 fn put_field(out: &mut [u8], at: usize, word: &[u8], s: &[u8], l: FieldList, place: usize) -> usize
     requires { ⌜ (length (now word) ≤ 9) × (place < 42) ⌝ }
-    ensures { λ r. ⌜ Puts (now (out .entry)) at (fieldLine (now (word .entry)) (fieldOf l (now (s .entry)) place)) (lineRoom (length (now (s .entry))) place) (now (out .exit)) r ⌝ }
+    ensures { λ r. ⌜ PutsField (now (out .entry)) at (now (word .entry)) (now (s .entry)) l place (now (out .exit)) r ⌝ }
 {
     let row = schema::row_at(place);
     let p = put_named(out, at, word, row.number as u64);
@@ -234,7 +234,7 @@ fn put_field(out: &mut [u8], at: usize, word: &[u8], s: &[u8], l: FieldList, pla
 // The lines of a list's present fields, each after the list's word.
 fn put_list(out: &mut [u8], at: usize, word: &[u8], s: &[u8], l: FieldList) -> usize
     requires { ⌜ length (now word) ≤ 9 ⌝ }
-    ensures { λ r. ⌜ Puts (now (out .entry)) at (fieldLines (now (word .entry)) (fieldsOf l (now (s .entry)))) (16128 + 26 * length (now (s .entry))) (now (out .exit)) r ⌝ }
+    ensures { λ r. ⌜ PutsList (now (out .entry)) at (now (word .entry)) (now (s .entry)) l (now (out .exit)) r ⌝ }
 {
     let mut p = at;
     let mut place: usize = 0;
@@ -259,7 +259,7 @@ fn put_head(
     challenge: Part,
     unique: Part,
 ) -> usize
-    ensures { λ r. ⌜ Puts (now (out .entry)) at (headText (attestation .version) (attestation .level) (keymint .version) (keymint .level) (partOf (now (s .entry)) challenge) (partOf (now (s .entry)) unique)) (133 + 4 * length (now (s .entry))) (now (out .exit)) r ⌝ }
+    ensures { λ r. ⌜ PutsHead (now (out .entry)) at (now (s .entry)) attestation keymint challenge unique (now (out .exit)) r ⌝ }
 {
     let p = put_numbers(
         out,
@@ -283,7 +283,7 @@ fn put_head(
 
 // The last line: how many elements.
 fn put_count(out: &mut [u8], at: usize, count: usize) -> usize
-    ensures { λ r. ⌜ Puts (now (out .entry)) at (countLine count) 30 (now (out .exit)) r ⌝ }
+    ensures { λ r. ⌜ PutsText (now (out .entry)) at (countLine count) 30 (now (out .exit)) r ⌝ }
 {
     let p = put_named(out, at, b"elements ", count as u64);
     put_octet(out, p, b'\n')
@@ -291,7 +291,7 @@ fn put_count(out: &mut [u8], at: usize, count: usize) -> usize
 
 // All the lines of a record.
 fn put_record(out: &mut [u8], s: &[u8], r: Record, count: usize) -> usize
-    ensures { λ e. ⌜ Puts (now (out .entry)) 0 (contentText (contentOf r (now (s .entry))) count) (needed (length (now (s .entry)))) (now (out .exit)) e ⌝ }
+    ensures { λ e. ⌜ PutsRecord (now (out .entry)) (now (s .entry)) r count (now (out .exit)) e ⌝ }
 {
     let p = put_head(out, 0, s, r.attestation, r.keymint, r.challenge, r.unique);
     let q = put_list(out, p, b"software ", s, r.software);
@@ -308,8 +308,8 @@ pub enum Listed {
 // Lists a record whose octet parts lie in s, of an extension of count elements. Parts are cut at the end of s, and sets
 // at their 16 slots. The output must have 32,768 octets and 56 for each of s, which is enough for any record.
 pub fn list_record(r: Record, count: usize, s: &[u8], out: &mut [u8]) -> Listed
-    ensures answer { λ e. ⌜ ofListed e ≡ listed (needed (length (now (s .entry)))) (now (out .entry)) (contentText (contentOf r (now (s .entry))) count) ⌝ }
-    ensures output { λ e. ⌜ now (out .exit) ≡ left (listed (needed (length (now (s .entry)))) (now (out .entry)) (contentText (contentOf r (now (s .entry))) count)) (now (out .entry)) 0 (contentText (contentOf r (now (s .entry))) count) ⌝ }
+    ensures answer { λ e. ⌜ ofListed e ≡ recordListed r count (now (s .entry)) (now (out .entry)) ⌝ }
+    ensures output { λ e. ⌜ now (out .exit) ≡ recordLeft r count (now (s .entry)) (now (out .entry)) ⌝ }
 {
     let room = out.len();
     if room < 32768 {
@@ -323,8 +323,8 @@ pub fn list_record(r: Record, count: usize, s: &[u8], out: &mut [u8]) -> Listed
 
 // Lists a refusal. The output must have 64 octets.
 pub fn list_refusal(number: u8, place: usize, out: &mut [u8]) -> Listed
-    ensures answer { λ e. ⌜ ofListed e ≡ listed refusalNeeded (now (out .entry)) (refusalText number place) ⌝ }
-    ensures output { λ e. ⌜ now (out .exit) ≡ left (listed refusalNeeded (now (out .entry)) (refusalText number place)) (now (out .entry)) 0 (refusalText number place) ⌝ }
+    ensures answer { λ e. ⌜ ofListed e ≡ refusalListed number place (now (out .entry)) ⌝ }
+    ensures output { λ e. ⌜ now (out .exit) ≡ refusalLeft number place (now (out .entry)) ⌝ }
 {
     if out.len() < 64 {
         return Listed::Short;

@@ -1,10 +1,5 @@
-pub mod Copies
 pub mod Unpacked
-pub mod Fits
-pub mod Parts
-pub mod Puts
-pub mod RoundTrip
 pub mod Calls
-pub mod Again
-pub mod Filled
-pub mod Listings
+pub mod ImageRead
+pub mod Numbers
+pub mod Same

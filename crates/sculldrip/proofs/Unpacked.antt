@@ -4,12 +4,12 @@ use Prim.Native.Nat.{ℕ, _+_, _*_, _/_, _%_, _<_, _≤_}
 use native.Mathlib.Omega.{arith}
 use borrow.Author.Tests.{le-ltb}
 use Rattle.answer.specs.Answer.{pick}
-use Rattle.sculldrip.specs.Packed.{restTop, capped, word}
+use Rattle.sculldrip.specs.Packed.{restTop, rest, word}
 
--- what 56 bits hold is not capped
-pub not-capped : (n : ℕ) → n ≤ restTop → capped n ≡ n
+-- what 56 bits hold is kept whole
+pub rest-whole : (n : ℕ) → n ≤ restTop → rest n ≡ n
 unfolding pick
-not-capped n h = rw (le-ltb restTop n h) refl
+rest-whole n h = rw (le-ltb restTop n h) refl
 
-pub unpacked : (number rest : ℕ) → number < 256 → rest ≤ restTop → (word number rest % 256 ≡ number) × (word number rest / 256 ≡ rest)
-unpacked number rest h q = rw (not-capped rest q) (omega arith, omega arith)
+pub unpacked : (number n : ℕ) → number < 256 → n ≤ restTop → (word number n % 256 ≡ number) × (word number n / 256 ≡ n)
+unpacked number n h q = rw (rest-whole n q) (omega arith, omega arith)

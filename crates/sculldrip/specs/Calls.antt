@@ -1,29 +1,30 @@
 -- What each function of include/sculldrip.h answers and leaves, by the definitions that the rest of the project is proved
 -- against. Slices that are too short come first (200), then an image that is of no record (20); a refusal changes nothing.
+-- Statements has what is proved of these answers.
 use mathlib.Core.Path.{_≡_}
-use mathlib.Core.Bool.{Bool, true, not}
+use mathlib.Core.Bool.{Bool, true, false, not}
 use mathlib.Core.Option.{Option, none, some}
 use mathlib.Core.List.{List, [], _∷_}
 use Prim.Native.Nat.{ℕ}
-use lib.ListN.{length, getD, drop}
-use lib.Dec.{T, eqb, leb}
-use Rattle.answer.specs.Answer.{Answer, got, refused, guard}
-use Rattle.answer.specs.Refusal.{illShaped, shortImage}
-use Rattle.codec.specs.Octets.{splice, left}
+use lib.ListN.{length, getD}
+use lib.Dec.{eqb, leb}
+use Rattle.answer.specs.Answer.{Answer, got, refused, guard, bind}
+use Rattle.answer.specs.Refusal.{shortImage}
+use Rattle.codec.specs.Octets.{splice}
 use Rattle.schema.specs.Content.{Content}
 use Rattle.schema.specs.Decode.{read}
 use Rattle.records.specs.declared.Record.{Record}
-use Rattle.records.specs.Content.{contentOf}
-use Rattle.records.specs.Shape.{wellShapedRecord}
-use Rattle.records.specs.Parts.{partsInside}
 use Rattle.records.specs.Asked.{askedOctets}
-use Rattle.writer.specs.Written.{written, encodingOf}
+use Rattle.reader.specs.declared.Outcome.{Outcome}
+use Rattle.reader.specs.Reading.{Reads}
+use Rattle.writer.specs.Written.{written, leftBy}
 use Rattle.ruling.specs.Ruling.{Permit, ruling}
 use Rattle.ruling.specs.declared.request.Request.{Request}
 use Rattle.enrolment.specs.Enrolled.{enrolled}
-use Rattle.listing.specs.Room.{needed, listed}
-use Rattle.listing.specs.Text.{listing}
-use Rattle.sculldrip.specs.Image.{recordOf, wordsFit}
+use Rattle.extension_text.specs.Bytes.{extensionListed}
+use Rattle.image.specs.Image.{imageOf, recordIn}
+use Rattle.image.specs.Whole.{Whole}
+use Rattle.sculldrip.specs.Packed.{packed}
 
 -- at least n words, or 200
 abbrev pub atLeast : {A : Type 0} → ℕ → List ℕ → Answer A → Answer A
@@ -31,7 +32,7 @@ atLeast n words next = guard (leb n (length words)) shortImage 0 next
 
 -- what is answered of an image's record
 abbrev pub ofImage : {A : Type 0} → List ℕ → (Record → Answer A) → Answer A
-ofImage image next = atLeast 410 image (guard (wordsFit image) illShaped 0 (next (recordOf image)))
+ofImage image next = bind (recordIn image) next
 
 -- the count, length or 0 that stands beside what was answered
 abbrev pub counted : {A : Type 0} → (A → ℕ) → Answer A → Answer ℕ
@@ -43,28 +44,60 @@ abbrev pub leaves : {A : Type 0} → (A → List ℕ) → Answer A → List ℕ 
 leaves words (got a) old = splice old 0 (words a)
 leaves words (refused number place) old = old
 
+-- ---- sculldrip_version
+
+-- "the interface's version"
+abbrev pub interfaceVersion : ℕ
+interfaceVersion = 2
+
 -- ---- sculldrip_read
 
 unfoldable pub readInto : List ℕ → List ℕ → Answer (Content × ℕ)
 readInto s image = atLeast 410 image (read s)
 
--- an image that now has a record of this content in s; the words after it are as they were
-pub record Filled (s old new : List ℕ) (content : Content) : Type 0 where
-  pub says : contentOf (recordOf new) s ≡ content
-  pub fits : wordsFit new ≡ true
-  pub shaped : T (wellShapedRecord (recordOf new))
-  pub inside : T (partsInside (recordOf new) (length s))
-  pub rest : drop 410 new ≡ drop 410 old
-  pub sized : length new ≡ length old
+abbrev pub readAnswer : List ℕ → List ℕ → ℕ
+readAnswer s image = packed (counted (λ c. c .1) (readInto s image))
 
-abbrev pub ReadLeaves : Answer (Content × ℕ) → List ℕ → List ℕ → List ℕ → Type 0
-ReadLeaves (got c) s old new = Filled s old new (c .0)
-ReadLeaves (refused number place) s old new = new ≡ old
+-- a read's outcome: whether there is a record, and its count of elements
+abbrev pub isAccepted : Outcome → Bool
+isAccepted (Outcome.Accepted n) = true
+isAccepted (Outcome.Refused number place) = false
+
+abbrev pub elementsOf : Outcome → Answer ℕ
+elementsOf (Outcome.Accepted n) = got n
+elementsOf (Outcome.Refused number place) = refused number place
+
+-- the words of a record as the code has it, of which all holds that is promised of a record read from s with n elements
+-- (reader Reading: what it says, that it is well-shaped, where its parts lie), at the front; the words after them stay
+pub record ImageOfRead (s old new : List ℕ) (n : ℕ) : Type 0 where
+  pub said : Record
+  pub reads : Reads s (Outcome.Accepted n) said
+  pub whole : Whole said
+  pub image : new ≡ splice old 0 (imageOf said)
+
+-- what a read of s with this answer leaves of an image
+abbrev pub LeavesRead : Answer (Content × ℕ) → List ℕ → List ℕ → List ℕ → Type 0
+LeavesRead (got c) s old new = ImageOfRead s old new (c .1)
+LeavesRead (refused number place) s old new = new ≡ old
+
+abbrev pub ReadLeaves : List ℕ → List ℕ → List ℕ → Type 0
+ReadLeaves s old new = LeavesRead (readInto s old) s old new
 
 -- ---- sculldrip_write
 
 unfoldable pub writeImage : List ℕ → List ℕ → List ℕ → Answer ℕ
 writeImage image s out = ofImage image (λ r. written r s out)
+
+abbrev pub writeAnswer : List ℕ → List ℕ → List ℕ → ℕ
+writeAnswer image s out = packed (writeImage image s out)
+
+-- what the writer leaves, where there is a record
+abbrev pub recordLeaves : Answer Record → List ℕ → List ℕ → List ℕ
+recordLeaves (got r) s out = leftBy r s out
+recordLeaves (refused number place) s out = out
+
+abbrev pub writeLeaves : List ℕ → List ℕ → List ℕ → List ℕ
+writeLeaves image s out = recordLeaves (recordIn image) s out
 
 -- ---- sculldrip_octets
 
@@ -79,6 +112,12 @@ asked none = 0
 abbrev pub partWords : Option (ℕ × ℕ) → List ℕ
 partWords (some p) = p .0 ∷ p .1 ∷ []
 partWords none = []
+
+abbrev pub askAnswer : List ℕ → ℕ → ℕ → ℕ → List ℕ → ℕ
+askAnswer image hardware number len part = packed (counted asked (askImage image hardware number len part))
+
+abbrev pub askLeaves : List ℕ → ℕ → ℕ → ℕ → List ℕ → List ℕ
+askLeaves image hardware number len part = leaves partWords (askImage image hardware number len part) part
 
 -- ---- sculldrip_rule
 
@@ -113,12 +152,21 @@ permitWords p = p .hardware ∷ p .hardwareBits ∷ p .software ∷ p .softwareB
 unfoldable pub ruleImage : List ℕ → List ℕ → List ℕ → Answer Permit
 ruleImage image request permit = atLeast 16 request (atLeast 4 permit (ofImage image (λ r. ruling r (requestOf request))))
 
+abbrev pub ruleAnswer : List ℕ → List ℕ → List ℕ → ℕ
+ruleAnswer image request permit = packed (counted (λ p. 0) (ruleImage image request permit))
+
+abbrev pub ruleLeaves : List ℕ → List ℕ → List ℕ → List ℕ
+ruleLeaves image request permit = leaves permitWords (ruleImage image request permit) permit
+
 -- ---- sculldrip_enrol
 
 unfoldable pub enrolImage : List ℕ → List ℕ → List ℕ → Answer (Unit {0})
 enrolImage image s expected = ofImage image (λ r. enrolled r s expected)
 
+abbrev pub enrolAnswer : List ℕ → List ℕ → List ℕ → ℕ
+enrolAnswer image s expected = packed (counted (λ u. 0) (enrolImage image s expected))
+
 -- ---- sculldrip_list
 
-unfoldable pub listInto : List ℕ → List ℕ → Answer ℕ
-listInto s out = listed (needed (length s)) out (listing (read s))
+abbrev pub listAnswer : List ℕ → List ℕ → ℕ
+listAnswer s out = packed (extensionListed s out)

@@ -1,4 +1,3 @@
-pub mod Image
-pub mod Whole
 pub mod Packed
 pub mod Calls
+pub mod Statements

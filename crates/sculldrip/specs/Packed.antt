@@ -8,12 +8,12 @@ use Rattle.answer.specs.Answer.{Answer, got, refused, pick}
 abbrev pub restTop : ℕ
 restTop = 72057594037927935
 
-abbrev pub capped : ℕ → ℕ
-capped n = pick (ltb restTop n) restTop n
+abbrev pub rest : ℕ → ℕ
+rest n = pick (ltb restTop n) restTop n
 
 -- a number in the low byte and the rest above it
 abbrev pub word : ℕ → ℕ → ℕ
-word number rest = number + 256 * capped rest
+word number n = number + 256 * rest n
 
 abbrev pub packed : Answer ℕ → ℕ
 packed (got n) = word 0 n

@@ -1,17 +1,14 @@
 // The C interface (include/sculldrip.h): every function takes anything and answers one number, and a refused call changes
 // nothing that was lent. specs/Calls.antt says what each answers and leaves.
-mod image;
 mod packed;
-mod put;
 
-use crate::image::record_of;
-use crate::image::words_fit;
 use crate::packed::word;
-use crate::put::put_image;
-use answer::ILL_SHAPED;
 use answer::OUTPUT_SHORT;
 use answer::SHORT_IMAGE;
 use enrolment::Enrolment;
+use extension_text::list_bytes;
+use image::put_image;
+use image::record_of;
 use listing::Listed;
 use reader::Outcome;
 use records::octets::Asked;
@@ -23,20 +20,42 @@ use writer::Written;
 ghost use mathlib.Core.Path.{_≡_};
 ghost use Prim.Native.Nat.{_≤_};
 ghost use lib.ListN.{length};
-ghost use Rattle.codec.specs.Octets.{left};
+ghost use Rattle.extension_text.specs.Bytes.{extensionLeft};
 ghost use Rattle.listing.specs.Room.{ofListed};
-ghost use Rattle.listing.specs.Text.{listing};
-ghost use Rattle.schema.specs.Decode.{read};
-ghost use Rattle.writer.specs.Written.{encodingOf};
-ghost use Rattle.sculldrip.specs.Image.{recordOf};
 ghost use Rattle.sculldrip.specs.Packed.{packed};
-ghost use Rattle.sculldrip.specs.Calls.{counted, leaves, readInto, ReadLeaves, writeImage, askImage, asked, partWords, requestOf, permitWords, ruleImage, enrolImage, listInto};
+ghost use Rattle.sculldrip.specs.Calls.{interfaceVersion, isAccepted, elementsOf, readAnswer, ReadLeaves, writeAnswer, writeLeaves, askAnswer, askLeaves, requestOf, ruleAnswer, ruleLeaves, enrolAnswer, listAnswer};
+
+// The interface's version, as SCULLDRIP_VERSION in the header.
+#[no_mangle]
+pub extern "C" fn sculldrip_version() -> u64
+    ensures { λ a. ⌜ a ≡ interfaceVersion ⌝ }
+{
+    2
+}
+
+fn is_accepted(outcome: Outcome) -> bool
+    ensures { λ b. ⌜ b ≡ isAccepted outcome ⌝ }
+{
+    match outcome {
+        Outcome::Accepted(_) => true,
+        Outcome::Refused(_, _) => false,
+    }
+}
+
+fn read_word(outcome: Outcome) -> u64
+    ensures { λ a. ⌜ a ≡ packed (elementsOf outcome) ⌝ }
+{
+    match outcome {
+        Outcome::Accepted(count) => word(0, count),
+        Outcome::Refused(number, place) => word(number, place),
+    }
+}
 
 // Reads an extension into an image.
 #[no_mangle]
 pub extern "C" fn sculldrip_read(extension: &[u8], image: &mut [u64]) -> u64
-    ensures answer { λ a. ⌜ a ≡ packed (counted (λ c. c .1) (readInto (now (extension .entry)) (now (image .entry)))) ⌝ }
-    ensures output { λ a. ⌜ ReadLeaves (readInto (now (extension .entry)) (now (image .entry))) (now (extension .entry)) (now (image .entry)) (now (image .exit)) ⌝ }
+    ensures answer { λ a. ⌜ a ≡ readAnswer (now (extension .entry)) (now (image .entry)) ⌝ }
+    ensures output { λ a. ⌜ ReadLeaves (now (extension .entry)) (now (image .entry)) (now (image .exit)) ⌝ }
 {
     if image.len() < 410 {
         return word(SHORT_IMAGE, 0);
@@ -44,28 +63,24 @@ pub extern "C" fn sculldrip_read(extension: &[u8], image: &mut [u64]) -> u64
     let reading = reader::read(extension);
     let said = reading.said;
     let outcome = reading.outcome;
-    match outcome {
-        Outcome::Refused(number, place) => word(number, place),
-        Outcome::Accepted(count) => {
-            put_image(image, said);
-            word(0, count)
-        }
+    if is_accepted(outcome) {
+        put_image(image, said);
+        return read_word(outcome);
     }
+    read_word(outcome)
 }
 
 // Writes the one encoding of an image's record at the front of the output.
 #[no_mangle]
 pub extern "C" fn sculldrip_write(image: &[u64], buffer: &[u8], output: &mut [u8]) -> u64
-    ensures answer { λ a. ⌜ a ≡ packed (writeImage (now (image .entry)) (now (buffer .entry)) (now (output .entry))) ⌝ }
-    ensures output { λ a. ⌜ now (output .exit) ≡ left (writeImage (now (image .entry)) (now (buffer .entry)) (now (output .entry))) (now (output .entry)) 0 (encodingOf (recordOf (now (image .entry))) (now (buffer .entry))) ⌝ }
+    ensures answer { λ a. ⌜ a ≡ writeAnswer (now (image .entry)) (now (buffer .entry)) (now (output .entry)) ⌝ }
+    ensures output { λ a. ⌜ now (output .exit) ≡ writeLeaves (now (image .entry)) (now (buffer .entry)) (now (output .entry)) ⌝ }
 {
-    if image.len() < 410 {
-        return word(SHORT_IMAGE, 0);
+    let found = record_of(image);
+    if found.refusal != 0 {
+        return word(found.refusal, 0);
     }
-    if !words_fit(image) {
-        return word(ILL_SHAPED, 0);
-    }
-    let r = record_of(image);
+    let r = found.said;
     match writer::write(r, buffer, output) {
         Written::Refused(number, place) => word(number, place),
         Written::Wrote(n) => word(0, n),
@@ -81,19 +96,17 @@ pub extern "C" fn sculldrip_octets(
     size: usize,
     part: &mut [u64],
 ) -> u64
-    ensures answer { λ a. ⌜ a ≡ packed (counted asked (askImage (now (image .entry)) hardware number size (now (part .entry)))) ⌝ }
-    ensures output { λ a. ⌜ now (part .exit) ≡ leaves partWords (askImage (now (image .entry)) hardware number size (now (part .entry))) (now (part .entry)) ⌝ }
+    ensures answer { λ a. ⌜ a ≡ askAnswer (now (image .entry)) hardware number size (now (part .entry)) ⌝ }
+    ensures output { λ a. ⌜ now (part .exit) ≡ askLeaves (now (image .entry)) hardware number size (now (part .entry)) ⌝ }
 {
     if part.len() < 2 {
         return word(SHORT_IMAGE, 0);
     }
-    if image.len() < 410 {
-        return word(SHORT_IMAGE, 0);
+    let found = record_of(image);
+    if found.refusal != 0 {
+        return word(found.refusal, 0);
     }
-    if !words_fit(image) {
-        return word(ILL_SHAPED, 0);
-    }
-    let r = record_of(image);
+    let r = found.said;
     match ask_octets(r, hardware != 0, number as usize, size) {
         Asked::Refused(refusal, place) => word(refusal, place),
         Asked::Absent => word(0, 0),
@@ -136,8 +149,8 @@ fn request_of(words: &[u64]) -> Request
 // Rules on a use of the key of an image's record; a permit's marks go into permit.
 #[no_mangle]
 pub extern "C" fn sculldrip_rule(image: &[u64], request: &[u64], permit: &mut [u64]) -> u64
-    ensures answer { λ a. ⌜ a ≡ packed (counted (λ p. 0) (ruleImage (now (image .entry)) (now (request .entry)) (now (permit .entry)))) ⌝ }
-    ensures output { λ a. ⌜ now (permit .exit) ≡ leaves permitWords (ruleImage (now (image .entry)) (now (request .entry)) (now (permit .entry))) (now (permit .entry)) ⌝ }
+    ensures answer { λ a. ⌜ a ≡ ruleAnswer (now (image .entry)) (now (request .entry)) (now (permit .entry)) ⌝ }
+    ensures output { λ a. ⌜ now (permit .exit) ≡ ruleLeaves (now (image .entry)) (now (request .entry)) (now (permit .entry)) ⌝ }
 {
     if request.len() < 16 {
         return word(SHORT_IMAGE, 0);
@@ -145,13 +158,11 @@ pub extern "C" fn sculldrip_rule(image: &[u64], request: &[u64], permit: &mut [u
     if permit.len() < 4 {
         return word(SHORT_IMAGE, 0);
     }
-    if image.len() < 410 {
-        return word(SHORT_IMAGE, 0);
+    let found = record_of(image);
+    if found.refusal != 0 {
+        return word(found.refusal, 0);
     }
-    if !words_fit(image) {
-        return word(ILL_SHAPED, 0);
-    }
-    let r = record_of(image);
+    let r = found.said;
     let q = request_of(request);
     match ruling::rule(r, q) {
         Ruling::Refused(number, place) => word(number, place),
@@ -173,15 +184,13 @@ pub extern "C" fn sculldrip_rule(image: &[u64], request: &[u64], permit: &mut [u
 // Rules on taking on the key of an image's record.
 #[no_mangle]
 pub extern "C" fn sculldrip_enrol(image: &[u64], buffer: &[u8], expected: &[u8]) -> u64
-    ensures answer { λ a. ⌜ a ≡ packed (counted (λ u. 0) (enrolImage (now (image .entry)) (now (buffer .entry)) (now (expected .entry)))) ⌝ }
+    ensures answer { λ a. ⌜ a ≡ enrolAnswer (now (image .entry)) (now (buffer .entry)) (now (expected .entry)) ⌝ }
 {
-    if image.len() < 410 {
-        return word(SHORT_IMAGE, 0);
+    let found = record_of(image);
+    if found.refusal != 0 {
+        return word(found.refusal, 0);
     }
-    if !words_fit(image) {
-        return word(ILL_SHAPED, 0);
-    }
-    let r = record_of(image);
+    let r = found.said;
     match enrolment::enrol(r, buffer, expected) {
         Enrolment::Refused(number, place) => word(number, place),
         Enrolment::Enrolled => word(0, 0),
@@ -197,24 +206,11 @@ fn list_word(listed: Listed) -> u64
     }
 }
 
-// Lists an extension, or its refusal, as text. The room is that of the longest listing, whatever is found.
+// Lists an extension, or its refusal, as text. A refusal asks for 64 octets; 491,520 are enough for any extension.
 #[no_mangle]
 pub extern "C" fn sculldrip_list(extension: &[u8], text: &mut [u8]) -> u64
-    ensures answer { λ a. ⌜ a ≡ packed (listInto (now (extension .entry)) (now (text .entry))) ⌝ }
-    ensures output { λ a. ⌜ now (text .exit) ≡ left (listInto (now (extension .entry)) (now (text .entry))) (now (text .entry)) 0 (listing (read (now (extension .entry)))) ⌝ }
+    ensures answer { λ a. ⌜ a ≡ listAnswer (now (extension .entry)) (now (text .entry)) ⌝ }
+    ensures output { λ a. ⌜ now (text .exit) ≡ extensionLeft (now (extension .entry)) (now (text .entry)) ⌝ }
 {
-    let room = text.len();
-    if room < 32768 {
-        return word(OUTPUT_SHORT, 0);
-    }
-    if (room - 32768) / 56 < extension.len() {
-        return word(OUTPUT_SHORT, 0);
-    }
-    let reading = reader::read(extension);
-    let said = reading.said;
-    let outcome = reading.outcome;
-    match outcome {
-        Outcome::Refused(number, place) => list_word(listing::list_refusal(number, place, text)),
-        Outcome::Accepted(count) => list_word(listing::list_record(said, count, extension, text)),
-    }
+    list_word(list_bytes(extension, text))
 }

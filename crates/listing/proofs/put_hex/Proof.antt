@@ -8,10 +8,10 @@ use Rattle.listing.proofs.Writes.{hex-start, hex-more, hex-end}
 use Rattle.listing.proofs.put_hex.Statement.{statement}
 use Rattle.listing.proofs.put_hex.Tie as tie
 use Rattle.listing.specs.Text.{hexText}
-use Rattle.listing.specs.Put.{Puts}
+use Rattle.listing.specs.Put.{PutsText}
 
 abbrev Inv-loop : tie.InvT-loop
-Inv-loop out₀ at s p₀ i₀ out p i = (i ≤ length s) × (length out ≡ length out₀) × Puts out₀ at (hexText (take i s)) (2 * i) out p
+Inv-loop out₀ at s p₀ i₀ out p i = (i ≤ length s) × (length out ≡ length out₀) × PutsText out₀ at (hexText (take i s)) (2 * i) out p
 
 abbrev μ-loop : tie.MeasureT-loop
 μ-loop out₀ at s p₀ i₀ out p i = length s - i

@@ -7,10 +7,10 @@ use Rattle.listing.proofs.Writes.{more-start, more-more, more-counted, 
 use Rattle.listing.proofs.put_more.Statement.{statement}
 use Rattle.listing.proofs.put_more.Tie as tie
 use Rattle.listing.specs.Text.{moreNumbers}
-use Rattle.listing.specs.Put.{Puts}
+use Rattle.listing.specs.Put.{PutsText}
 
 abbrev Inv-loop : tie.InvT-loop
-Inv-loop out₀ at members count p₀ i₀ out p i = (1 ≤ i) × (i ≤ 16) × (i ≤ count) × (length members ≡ 16) × (length out ≡ length out₀) × Puts out₀ at (moreNumbers (drop 1 (take i members))) (21 * (i - 1)) out p
+Inv-loop out₀ at members count p₀ i₀ out p i = (1 ≤ i) × (i ≤ 16) × (i ≤ count) × (length members ≡ 16) × (length out ≡ length out₀) × PutsText out₀ at (moreNumbers (drop 1 (take i members))) (21 * (i - 1)) out p
 
 abbrev μ-loop : tie.MeasureT-loop
 μ-loop out₀ at members count p₀ i₀ out p i = 16 - i

@@ -6,10 +6,10 @@ use borrow.Author.Needs.{needs}
 use Rattle.listing.proofs.Writes.{text-start, text-more, text-end}
 use Rattle.listing.proofs.put_text.Statement.{statement}
 use Rattle.listing.proofs.put_text.Tie as tie
-use Rattle.listing.specs.Put.{Puts}
+use Rattle.listing.specs.Put.{PutsText}
 
 abbrev Inv-loop : tie.InvT-loop
-Inv-loop out₀ at text p₀ i₀ out p i = (i ≤ length text) × (length out ≡ length out₀) × Puts out₀ at (take i text) i out p
+Inv-loop out₀ at text p₀ i₀ out p i = (i ≤ length text) × (length out ≡ length out₀) × PutsText out₀ at (take i text) i out p
 
 abbrev μ-loop : tie.MeasureT-loop
 μ-loop out₀ at text p₀ i₀ out p i = length text - i

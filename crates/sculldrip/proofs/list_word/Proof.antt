@@ -1,5 +1,5 @@
 -- `list_word` meets its contract, case by case. Assumes nothing.
-use Rattle.sculldrip.proofs.Listings.{told-listed}
+use Rattle.sculldrip.proofs.Calls.{told-listed}
 use borrow.Author.Needs.{needs}
 use Rattle.sculldrip.proofs.list_word.Statement.{statement}
 use Rattle.sculldrip.proofs.list_word.Tie as tie

@@ -3,7 +3,7 @@ use mathlib.Core.Path.{refl}
 use native.Mathlib.Omega.{arith}
 use lib.ListN.{length-set}
 use Rattle.sculldrip.specs.Calls.{permitWords}
-use Rattle.sculldrip.proofs.Calls.{answered, is-fit, rule-no-request, rule-no-permit, rule-short, rule-unfit, rule-is, permit-stored}
+use Rattle.sculldrip.proofs.Calls.{answered, rule-no-request, rule-no-permit, rule-none, rule-is, permit-stored}
 use borrow.Author.Needs.{needs}
 use Rattle.sculldrip.proofs.sculldrip_rule.Statement.{statement}
 use Rattle.sculldrip.proofs.sculldrip_rule.Tie as tie
@@ -20,23 +20,14 @@ word-requires-2 c κs = search needs
 returns-2 : tie.Need-returns-2
 returns-2 c = answered (λ p. 0) permitWords (c .before .before .before .before .before .before .args .permit .now) (rule-no-permit (c .before .before .before .before .before .before .args .image .now) (c .before .before .before .before .before .before .args .request .now) (c .before .before .before .before .before .before .args .permit .now) (c .before .before .if1 .left) (c .before .if2 .taken)) (c .word2 .ensures) refl
 
+record-of-requires : tie.Need-record-of-requires
+record-of-requires c κs = search needs
+
 word-requires-3 : tie.Need-word-requires-3
 word-requires-3 c κs = search needs
 
 returns-3 : tie.Need-returns-3
-returns-3 c = answered (λ p. 0) permitWords (c .before .before .before .before .before .before .before .args .permit .now) (rule-short (c .before .before .before .before .before .before .before .args .image .now) (c .before .before .before .before .before .before .before .args .request .now) (c .before .before .before .before .before .before .before .args .permit .now) (c .before .before .before .if1 .left) (c .before .before .if2 .left) (c .before .if3 .taken)) (c .word3 .ensures) refl
-
-words-fit-requires : tie.Need-words-fit-requires
-words-fit-requires c κs = search needs
-
-word-requires-4 : tie.Need-word-requires-4
-word-requires-4 c κs = search needs
-
-returns-4 : tie.Need-returns-4
-returns-4 c = answered (λ p. 0) permitWords (c .before .before .before .before .before .before .before .before .before .args .permit .now) (rule-unfit (c .before .before .before .before .before .before .before .before .before .args .image .now) (c .before .before .before .before .before .before .before .before .before .args .request .now) (c .before .before .before .before .before .before .before .before .before .args .permit .now) (c .before .before .before .before .before .if1 .left) (c .before .before .before .before .if2 .left) (c .before .before .before .if3 .left) (c .before .before .words-fit .ensures) (c .before .if4 .taken)) (c .word4 .ensures) refl
-
-record-of-requires : tie.Need-record-of-requires
-record-of-requires c κs = is-fit (c .before .before .before .before .before .before .before .before .args .image .now) (c .before .before .if3 .left) (c .before .words-fit .ensures) (c .if4 .left)
+returns-3 c = answered (λ p. 0) permitWords (c .before .before .before .before .before .before .before .before .before .args .permit .now) (rule-none (c .before .before .before .before .before .before .before .before .before .args .image .now) (c .before .before .before .before .before .before .before .before .before .args .request .now) (c .before .before .before .before .before .before .before .before .before .args .permit .now) (c .before .before .before .before .before .if1 .left) (c .before .before .before .before .if2 .left) (c .before .before .before .record-of .result) (c .before .before .before .record-of .ensures .0) (c .before .if3 .taken)) (c .word3 .ensures) refl
 
 request-of-requires : tie.Need-request-of-requires
 request-of-requires c κs = search needs
@@ -47,8 +38,8 @@ rule-requires c κs = search needs
 enum-known-number : tie.Need-enum-known-number
 enum-known-number c = search needs
 
-word-requires-5 : tie.Need-word-requires-5
-word-requires-5 c κs = search needs
+word-requires-4 : tie.Need-word-requires-4
+word-requires-4 c κs = search needs
 
 enum-known-hardware : tie.Need-enum-known-hardware
 enum-known-hardware c = search needs
@@ -77,17 +68,17 @@ cast-permit-4 c = search needs
 slice-write-permit-4 : tie.Need-slice-write-permit-4
 slice-write-permit-4 c = simp length-set (omega arith)
 
-word-requires-6 : tie.Need-word-requires-6
-word-requires-6 c κs = search needs
+word-requires-5 : tie.Need-word-requires-5
+word-requires-5 c κs = search needs
 
-returns-5 : tie.Need-returns-5
-returns-5 c = answered (λ p. 0) permitWords (c .before .before .before .before .before .before .before .before .before .before .before .before .before .before .before .args .permit .now) (rule-is (c .before .before .before .before .before .before .before .before .before .before .before .before .before .before .before .args .image .now) (c .before .before .before .before .before .before .before .before .before .before .before .before .before .before .before .args .request .now) (c .before .before .before .before .before .before .before .before .before .before .before .before .before .before .before .args .permit .now) (c .before .before .before .before .before .before .before .before .before .before .before .if1 .left) (c .before .before .before .before .before .before .before .before .before .before .if2 .left) (c .before .before .before .before .before .before .before .before .before .if3 .left) (c .before .before .before .before .before .before .before .before .words-fit .ensures) (c .before .before .before .before .before .before .before .if4 .left) (c .before .before .before .before .before .before .record-of .ensures) (c .before .before .before .before .before .request-of .ensures) (c .before .before .before .before .rule .ensures) (c .before .before .number .given .1)) (c .word5 .ensures) refl
+returns-4 : tie.Need-returns-4
+returns-4 c = answered (λ p. 0) permitWords (c .before .before .before .before .before .before .before .before .before .before .before .before .before .before .before .args .permit .now) (rule-is (c .before .before .before .before .before .before .before .before .before .before .before .before .before .before .before .args .image .now) (c .before .before .before .before .before .before .before .before .before .before .before .before .before .before .before .args .request .now) (c .before .before .before .before .before .before .before .before .before .before .before .before .before .before .before .args .permit .now) (c .before .before .before .before .before .before .before .before .before .before .before .if1 .left) (c .before .before .before .before .before .before .before .before .before .before .if2 .left) (c .before .before .before .before .before .before .before .before .before .record-of .result) (c .before .before .before .before .before .before .before .before .before .record-of .ensures .0) (c .before .before .before .before .before .before .before .if3 .left) (c .before .before .before .before .before .request-of .ensures) (c .before .before .before .before .rule .ensures) (c .before .before .number .given .1)) (c .word4 .ensures) refl
 
 same-length : tie.Need-same-length
 same-length c = search needs
 
-returns-6 : tie.Need-returns-6
-returns-6 c = answered (λ p. 0) permitWords (c .before .before .before .before .before .before .before .before .before .before .before .before .before .before .before .args .permit .now) (rule-is (c .before .before .before .before .before .before .before .before .before .before .before .before .before .before .before .args .image .now) (c .before .before .before .before .before .before .before .before .before .before .before .before .before .before .before .args .request .now) (c .before .before .before .before .before .before .before .before .before .before .before .before .before .before .before .args .permit .now) (c .before .before .before .before .before .before .before .before .before .before .before .if1 .left) (c .before .before .before .before .before .before .before .before .before .before .if2 .left) (c .before .before .before .before .before .before .before .before .before .if3 .left) (c .before .before .before .before .before .before .before .before .words-fit .ensures) (c .before .before .before .before .before .before .before .if4 .left) (c .before .before .before .before .before .before .record-of .ensures) (c .before .before .before .before .before .request-of .ensures) (c .before .before .before .before .rule .ensures) (c .before .before .hardware .given .1)) (c .word6 .ensures) (permit-stored (c .before .before .before .before .before .before .before .before .before .before .before .before .before .before .before .args .permit .now) _ _ _ _ (c .before .before .before .before .before .before .before .before .before .before .if2 .left))
+returns-5 : tie.Need-returns-5
+returns-5 c = answered (λ p. 0) permitWords (c .before .before .before .before .before .before .before .before .before .before .before .before .before .before .before .args .permit .now) (rule-is (c .before .before .before .before .before .before .before .before .before .before .before .before .before .before .before .args .image .now) (c .before .before .before .before .before .before .before .before .before .before .before .before .before .before .before .args .request .now) (c .before .before .before .before .before .before .before .before .before .before .before .before .before .before .before .args .permit .now) (c .before .before .before .before .before .before .before .before .before .before .before .if1 .left) (c .before .before .before .before .before .before .before .before .before .before .if2 .left) (c .before .before .before .before .before .before .before .before .before .record-of .result) (c .before .before .before .before .before .before .before .before .before .record-of .ensures .0) (c .before .before .before .before .before .before .before .if3 .left) (c .before .before .before .before .before .request-of .ensures) (c .before .before .before .before .rule .ensures) (c .before .before .hardware .given .1)) (c .word5 .ensures) (permit-stored (c .before .before .before .before .before .before .before .before .before .before .before .before .before .before .before .args .permit .now) _ _ _ _ (c .before .before .before .before .before .before .before .before .before .before .if2 .left))
 
 pub sculldrip-rule-spec : {M : Type 1} → statement M
 sculldrip-rule-spec =
@@ -97,16 +88,13 @@ sculldrip-rule-spec =
     returns
     word-requires-2
     returns-2
+    record-of-requires
     word-requires-3
     returns-3
-    words-fit-requires
-    word-requires-4
-    returns-4
-    record-of-requires
     request-of-requires
     rule-requires
     enum-known-number
-    word-requires-5
+    word-requires-4
     enum-known-hardware
     cast-permit
     slice-write-permit
@@ -116,7 +104,7 @@ sculldrip-rule-spec =
     slice-write-permit-3
     cast-permit-4
     slice-write-permit-4
-    word-requires-6
-    returns-5
+    word-requires-5
+    returns-4
     same-length
-    returns-6)
+    returns-5)

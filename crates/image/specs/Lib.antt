@@ -1,0 +1,4 @@
+pub mod Image
+pub mod Whole
+pub mod Agree
+pub mod Statements

@@ -1,0 +1,35 @@
+-- What is proved of images and records. Read RecordBack first, then NotLookedAt. Each is proved under its own name, in
+-- proofs/RoundTrip.antt, Again.antt and Agree.antt.
+use mathlib.Core.Path.{_≡_}
+use mathlib.Core.Bool.{Bool}
+use mathlib.Core.List.{List, _++_}
+use Prim.Native.Nat.{ℕ}
+use lib.ListN.{take}
+use Rattle.records.specs.declared.Record.{Record}
+use Rattle.records.specs.Content.{contentOf}
+use Rattle.records.specs.Shape.{wellShapedRecord}
+use Rattle.records.specs.Parts.{partsInside}
+use Rattle.records.specs.Asked.{askedOctets}
+use Rattle.image.specs.Image.{imageOf, recordOf, wordsFit}
+use Rattle.image.specs.Whole.{Whole}
+use Rattle.image.specs.Agree.{Agree}
+
+-- record, image, record: nothing of a record as the code has it is lost, whatever follows its words
+abbrev pub RecordBack : Type 0
+RecordBack = (r : Record) (rest : List ℕ) → Whole r → recordOf (imageOf r ++ rest) ≡ r
+
+-- image, record, image: not one word is lost, where they are those of a record
+abbrev pub ImageAgain : Type 0
+ImageAgain = (w : List ℕ) (r : Record) (rest : List ℕ) → Whole r → w ≡ imageOf r ++ rest → imageOf (recordOf w) ≡ take 410 w
+
+-- all that is asked of an image's record
+pub record SameAnswers (w w′ : List ℕ) : Type 0 where
+  pub fits : wordsFit w ≡ wordsFit w′
+  pub shaped : wellShapedRecord (recordOf w) ≡ wellShapedRecord (recordOf w′)
+  pub inside : (len : ℕ) → partsInside (recordOf w) len ≡ partsInside (recordOf w′) len
+  pub says : (s : List ℕ) → contentOf (recordOf w) s ≡ contentOf (recordOf w′) s
+  pub asked : (hardware : Bool) (number len : ℕ) → askedOctets (recordOf w) hardware number len ≡ askedOctets (recordOf w′) hardware number len
+
+-- what is not looked at does not matter
+abbrev pub NotLookedAt : Type 0
+NotLookedAt = (w w′ : List ℕ) → Agree w w′ → SameAnswers w w′
