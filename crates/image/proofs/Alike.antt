@@ -105,7 +105,7 @@ module _ (t t′ : RootOfTrust) (a : AlikeRoot t t′) where
   unfolding rootInside
   root-inside len = rw (a .key, pick-agree (t .hashed) (t′ .hashed) (partInside (t .hash) len) (partInside (t′ .hash) len) true (a .hashed) (λ h. ap (λ (p : Part). partInside p len) (a .hash h))) refl
 
-  root-same : (s : List ℕ) → rootOf s t ≡ rootOf s t′
+  root-same : (s : List ℕ) → rootOf (octetsAt s) t ≡ rootOf (octetsAt s) t′
   root-same s =
       rw (a .key, a .locked, a .state, pick-agree (t .hashed) (t′ .hashed) (some (partOf s (t .hash))) (some (partOf s (t′ .hash))) none (a .hashed) (λ h. ap (λ (p : Part). some (partOf s p)) (a .hash h))) refl
 
@@ -130,7 +130,7 @@ module _ (l l′ : FieldList) (n k : ℕ) where
   value-inside len octets a = rw (a .0, a .1) refl
   value-inside len root a = root-inside (l .root) (l′ .root) a len
 
-  value-same : (s : List ℕ) (kind : Kind) → AlikeValue kind l l′ n k → valueAt l s n kind k ≡ valueAt l′ s n kind k
+  value-same : (s : List ℕ) (kind : Kind) → AlikeValue kind l l′ n k → valueAt l (octetsAt s) n kind k ≡ valueAt l′ (octetsAt s) n kind k
   unfolding valueAt
   value-same s set a = ap nums (members-same (setAt l n) (setAt l′ n) a)
   value-same s number32 a = ap num a
@@ -166,7 +166,7 @@ module _ (l l′ : FieldList) (a : (k : ℕ) → k < 42 → AlikeRow l l′ k) w
       (λ k h. pick-agree (presentAt l k) (presentAt l′ k) _ _ true (a k h .held)
       (λ p. value-inside l l′ (rowAt k .number) k len (rowAt k .kind) (a k h .value p)))
 
-  pub list-same : (s : List ℕ) → fieldsOf l s ≡ fieldsOf l′ s
+  pub list-same : (s : List ℕ) → fieldsOf l (octetsAt s) ≡ fieldsOf l′ (octetsAt s)
   list-same s =
       same-fields l s l′ s
       (λ k h. record { held = a k h .held; says = λ p. value-same l l′ (rowAt k .number) k s (rowAt k .kind) (a k h .value p) })

@@ -151,11 +151,11 @@ state-put locked state e e₁ e₂ e₃ e₄ = rw (← e) (joined e₁ (joined e
 module _ (s : List ℕ) (root : RootOfTrust) {old o₁ o₂ : List ℕ} {p p₁ p₂ : ℕ}
     (e₁ : PutsText old p (octetsText (partOf s (root .key))) (2 * length s + 1) o₁ p₁) (e₂ : PutsText o₁ p₁ (stateText (root .locked) (root .state)) 23 o₂ p₂) where
   pub root-hashed : {o₃ new : List ℕ} {p₃ r : ℕ} → root .hashed ≡ true → PutsText o₂ p₂ space 1 o₃ p₃ → PutsText o₃ p₃ (octetsText (partOf s (root .hash))) (2 * length s + 1) new r
-      → PutsText old p (rootText (rootOf s root)) (4 * length s + 26) new r
+      → PutsText old p (rootText (rootOf (octetsAt s) root)) (4 * length s + 26) new r
   unfolding rootText hashText pick
   root-hashed h e₃ e₄ = rw h (within (4 * length s + 26) (omega arith) (joined e₁ (joined e₂ (joined e₃ e₄))))
 
-  pub root-unhashed : root .hashed ≡ false → PutsText old p (rootText (rootOf s root)) (4 * length s + 26) o₂ p₂
+  pub root-unhashed : root .hashed ≡ false → PutsText old p (rootText (rootOf (octetsAt s) root)) (4 * length s + 26) o₂ p₂
   unfolding rootText hashText pick
   root-unhashed h = rw (h, append-nil) (within (4 * length s + 26) (omega arith) (joined e₁ e₂))
 
@@ -178,7 +178,7 @@ octets-line word bs k e₁ e₂ e₃ = within (length word + 2 * k + 2) (omega a
 -- ---- a value, by its row's kind
 
 abbrev pub Valued : FieldList → List ℕ → ℕ → ℕ → Kind → List ℕ → ℕ → List ℕ → ℕ → Type 0
-Valued l s n k kind old p new q = PutsText old p (valueText (valueAt l s n (ofKind kind) k)) (335 + parts (ofKind kind) * length s) new q
+Valued l s n k kind old p new q = PutsText old p (valueText (valueAt l (octetsAt s) n (ofKind kind) k)) (335 + parts (ofKind kind) * length s) new q
 
 module _ (l : FieldList) (s : List ℕ) (n k : ℕ) (kind : Kind) {old new : List ℕ} {p q : ℕ} where
   pub value-set : kind ≡ Kind.Set → (g : NumberSet) → g ≡ setAt l n → PutsText old p (numbersText (membersOf g)) 335 new q → Valued l s n k kind old p new q
@@ -201,7 +201,7 @@ module _ (l : FieldList) (s : List ℕ) (n k : ℕ) (kind : Kind) {old new : Lis
   unfolding valueText valueAt
   value-octets e h = rw e (within (335 + 2 * length s) (omega arith) h)
 
-  pub value-root : kind ≡ Kind.Root → PutsText old p (rootText (rootOf s (l .root))) (4 * length s + 26) new q → Valued l s n k kind old p new q
+  pub value-root : kind ≡ Kind.Root → PutsText old p (rootText (rootOf (octetsAt s) (l .root))) (4 * length s + 26) new q → Valued l s n k kind old p new q
   unfolding valueText valueAt
   value-root e h = rw e (within (335 + 4 * length s) (omega arith) h)
 
@@ -221,7 +221,7 @@ fieldLines-append word (x ∷ xs) ys = rw (fieldLines-append word xs ys) (simp a
 
 -- the lines of the rows before the k-th are put
 abbrev pub Listing : FieldList → List ℕ → List ℕ → ℕ → List ℕ → ℕ → List ℕ → ℕ → Type 0
-Listing l s word k old p new q = PutsText old p (fieldLines word (upTo (fieldAt l s) k)) (linesRoom (length s) k) new q
+Listing l s word k old p new q = PutsText old p (fieldLines word (upTo (fieldAt l (octetsAt s)) k)) (linesRoom (length s) k) new q
 
 module _ (l : FieldList) (s word : List ℕ) where
   pub list-start : (old : List ℕ) (p : ℕ) → Listing l s word 0 old p old p
@@ -237,7 +237,7 @@ module _ (l : FieldList) (s word : List ℕ) where
   unfolding upTo fieldAt pick
   list-skip k h e = rw (add-one, h, append-nil) (within (linesRoom (length s) (suc k)) (omega arith) e)
 
-  pub list-end : (k : ℕ) {old new : List ℕ} {p q : ℕ} → 42 ≤ k → k ≤ 42 → Listing l s word k old p new q → PutsText old p (fieldLines word (fieldsOf l s)) (16128 + 26 * length s) new q
+  pub list-end : (k : ℕ) {old new : List ℕ} {p q : ℕ} → 42 ≤ k → k ≤ 42 → Listing l s word k old p new q → PutsText old p (fieldLines word (fieldsOf l (octetsAt s))) (16128 + 26 * length s) new q
   unfolding rows
   list-end k h w e = let z : k ≡ 42 = omega arith in within (16128 + 26 * length s) (omega arith) (rw z at e)
 

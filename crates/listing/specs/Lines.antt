@@ -10,7 +10,7 @@ use Rattle.records.specs.declared.Part.{Part}
 use Rattle.records.specs.declared.Security.{Security}
 use Rattle.records.specs.declared.FieldList.{FieldList}
 use Rattle.records.specs.declared.Record.{Record}
-use Rattle.records.specs.Content.{partOf, valueAt, fieldsOf, contentOf}
+use Rattle.records.specs.Content.{octetsAt, partOf, valueAt, fieldsOf, contentOf}
 use Rattle.listing.specs.Text.{numbersLine, octetsLine, valueText, fieldLine, fieldLines, headText, contentText, refusalText}
 use Rattle.listing.specs.Put.{PutsText}
 use Rattle.listing.specs.Room.{parts, fieldOf, lineRoom, needed, refusalNeeded, listed}
@@ -26,7 +26,7 @@ PutsOctets old p word s part new q = PutsText old p (octetsLine word (partOf s p
 -- the value of a row
 abbrev pub PutsValue : List ℕ → ℕ → List ℕ → FieldList → ℕ → Row → List ℕ → ℕ → Type 0
 PutsValue old p s l place row new q =
-    PutsText old p (valueText (valueAt l s (row .number) (ofKind (row .kind)) place)) (335 + parts (ofKind (row .kind)) * length s) new q
+    PutsText old p (valueText (valueAt l (octetsAt s) (row .number) (ofKind (row .kind)) place)) (335 + parts (ofKind (row .kind)) * length s) new q
 
 -- the line of a present row, after its list's word
 abbrev pub PutsField : List ℕ → ℕ → List ℕ → List ℕ → FieldList → ℕ → List ℕ → ℕ → Type 0
@@ -34,7 +34,7 @@ PutsField old p word s l place new q = PutsText old p (fieldLine word (fieldOf l
 
 -- the lines of a list's present fields
 abbrev pub PutsList : List ℕ → ℕ → List ℕ → List ℕ → FieldList → List ℕ → ℕ → Type 0
-PutsList old p word s l new q = PutsText old p (fieldLines word (fieldsOf l s)) (16128 + 26 * length s) new q
+PutsList old p word s l new q = PutsText old p (fieldLines word (fieldsOf l (octetsAt s))) (16128 + 26 * length s) new q
 
 -- the lines before the fields
 abbrev pub headOf : Security → Security → List ℕ → List ℕ → List ℕ

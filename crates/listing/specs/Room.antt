@@ -9,7 +9,7 @@ use Rattle.answer.specs.Refusal.{outputShort}
 use Rattle.schema.specs.Table.{Kind, set, number32, number64, null, octets, root, rowAt}
 use Rattle.schema.specs.Content.{Field, field}
 use Rattle.records.specs.declared.FieldList.{FieldList}
-use Rattle.records.specs.Content.{valueAt}
+use Rattle.records.specs.Content.{octetsAt, valueAt}
 use Rattle.listing.specs.declared.Listed.{Listed}
 
 -- how many octets of text a value has for each of the n bytes: two digits an octet, and 704 has two octet parts
@@ -23,7 +23,7 @@ parts root = 4
 
 -- the field of a row, were it present
 abbrev pub fieldOf : FieldList → List ℕ → ℕ → Field
-fieldOf l s k = field (rowAt k .number) (valueAt l s (rowAt k .number) (rowAt k .kind) k)
+fieldOf l s k = field (rowAt k .number) (valueAt l (octetsAt s) (rowAt k .number) (rowAt k .kind) k)
 
 -- at most 384 octets of a row's line are not digits of octets
 abbrev pub lineRoom : ℕ → ℕ → ℕ

@@ -5,7 +5,9 @@ use mathlib.Core.Bool.{Bool, true, false, true≢false}
 use mathlib.Core.List.{List, _++_}
 use Prim.Native.Nat.{ℕ, _+_, _<_, _≤_}
 use native.Mathlib.Omega.{arith}
-use lib.ListN.{length, drop}
+use mir.Syntax.{w8}
+use mir.Val.{Fits}
+use lib.ListN.{length, getD, drop}
 use lib.Seq.{drop-at}
 use borrow.Author.Tests.{le-leb}
 use Rattle.answer.specs.Answer.{Answer, got, refused, pick}
@@ -16,7 +18,8 @@ use Rattle.schema.specs.Content.{Content}
 use Rattle.schema.specs.Decode.{read}
 use Rattle.records.specs.declared.Record.{Record}
 use Rattle.reader.specs.declared.Outcome.{Outcome}
-use Rattle.reader.specs.Reading.{ofReading, Reads}
+use Rattle.reader.specs.Reading.{Reads}
+use Rattle.extension_text.proofs.Said.{saidIn, said-is}
 use Rattle.image.specs.Image.{imageOf, recordOf, wordsFit, imagePut}
 use Rattle.image.specs.Whole.{Whole}
 use Rattle.image.proofs.Puts.{image-length}
@@ -36,23 +39,23 @@ module _ (s old : List ℕ) where
   unfolding readInto
   read-short h p = told s old old (too-few 410 old (read s) h) p refl
 
-  module _ (h : 410 ≤ length old) (r : Record) where
-    found : (o : Outcome) → Reads s o r → ofReading s o r ≡ readInto s old
+  module _ (h : 410 ≤ length old) (f : (k : ℕ) → Fits w8 (getD s k 0)) (r : Record) where
+    found : (o : Outcome) → Reads s o r → saidIn s o r ≡ readInto s old
     unfolding readInto
-    found o is = is .is ∙ enough 410 old (read s) h
+    found o is = said-is s f o r is ∙ enough 410 old (read s) h
 
     put : {new : List ℕ} → new ≡ imagePut old r → new ≡ splice old 0 (imageOf r)
     unfolding imagePut pick
     put e = rw (le-leb 410 (length old) h) at e
 
     pub read-refused : (o : Outcome) → Reads s o r → {b : Bool} → b ≡ isAccepted o → b ≡ false → {n : ℕ} → n ≡ packed (elementsOf o) → (n ≡ readAnswer s old) × ReadLeaves s old old
-    read-refused (Outcome.Accepted k) is e f p = absurd (true≢false (sym e ∙ f))
-    read-refused (Outcome.Refused k q) is e f p = told s old old (found (Outcome.Refused k q) is) p refl
+    read-refused (Outcome.Accepted k) is e t p = absurd (true≢false (sym e ∙ t))
+    read-refused (Outcome.Refused k q) is e t p = told s old old (found (Outcome.Refused k q) is) p refl
 
     pub read-filled : (o : Outcome) → Reads s o r → {b : Bool} → b ≡ isAccepted o → b ≡ true → {n : ℕ} {new : List ℕ} → n ≡ packed (elementsOf o) → (new ≡ imagePut old r) × (410 ≤ length old → Whole r)
         → (n ≡ readAnswer s old) × ReadLeaves s old new
-    read-filled (Outcome.Accepted k) is e f {n} {new} p (q, w) = told s old new (found (Outcome.Accepted k) is) p (record { said = r; reads = is; whole = w h; image = put q })
-    read-filled (Outcome.Refused k q) is e f p z = absurd (true≢false (sym f ∙ e))
+    read-filled (Outcome.Accepted k) is e t {n} {new} p (q, w) = told s old new (found (Outcome.Accepted k) is) p (record { said = r; reads = is; whole = w h; image = put q })
+    read-filled (Outcome.Refused k q) is e t p z = absurd (true≢false (sym t ∙ e))
 
 -- ---- what a read leaves, said of the image alone
 

@@ -1,9 +1,9 @@
 -- Which numbers each function can answer: a refusal's number comes from one of its tests, and those are few. Assumes
 -- nothing.
-use mathlib.Core.Bool.{Bool, true, false, not, _&&_}
+use mathlib.Core.Bool.{Bool, true, false, not, _&&_, _||_}
 use mathlib.Core.List.{List, [], _∷_}
 use mathlib.Core.Option.{Option}
-use mathlib.Core.Path.{_≡_, sym, subst}
+use mathlib.Core.Path.{_≡_, refl, sym, subst}
 use Prim.Native.Nat.{ℕ, _+_, _*_, _%_, _<_}
 use native.Mathlib.Omega.{arith}
 use lib.Dec.{T, eqb, leb, ltb, ltb→lt}
@@ -20,14 +20,18 @@ use Rattle.ruling.specs.declared.request.Request.{Request}
 use Rattle.ruling.specs.Rules.{Rules}
 use Rattle.ruling.specs.Ruling.{Check, firstRefusing, shapeChecks, dateChecks, tokenChecks, deviceChecks, checks, unless, ruled, ruling}
 use Rattle.enrolment.specs.Enrolled.{judged, enrolled}
-use Rattle.schema.specs.Decode.{read}
+use Rattle.codec.specs.Octets.{Octets}
+use Rattle.schema.specs.Content.{Content}
+use Rattle.schema.specs.Decode.{asOctets, read}
+use Rattle.schema.proofs.Refusals.{read-refuses}
+use borrow.Author.Tests.{le-leb}
 use Rattle.listing.specs.Room.{listed}
 use Rattle.listing.specs.Text.{listing}
 use Rattle.extension_text.specs.Bytes.{room, extensionListed}
 use Rattle.image.specs.Image.{recordIn}
 use Rattle.sculldrip.specs.Packed.{rest, word, packed}
-use Rattle.sculldrip.specs.Calls.{counted, writeImage, askImage, asked, requestOf, ruleImage, enrolImage}
-use Rattle.sculldrip.specs.Statements.{oneOf, WriteAnswers, OctetsAnswers, ruleNumber, RuleAnswers, enrolNumber, EnrolAnswers, ListAnswers}
+use Rattle.sculldrip.specs.Calls.{counted, readInto, writeImage, askImage, asked, requestOf, ruleImage, enrolImage}
+use Rattle.sculldrip.specs.Statements.{oneOf, ReadAnswers, WriteAnswers, OctetsAnswers, ruleNumber, RuleAnswers, enrolNumber, EnrolAnswers, ListAnswers}
 
 -- a refusal's number is one of these, all of them bytes
 abbrev Within : {A : Type 0} → (ℕ → Bool) → Answer A → Type 0
@@ -65,6 +69,26 @@ module _ (may : ℕ → Bool) where
 
   of-image : {A : Type 0} (image : List ℕ) (next : Record → Answer A) → T (may 20) → T (may 200) → ((r : Record) → Within may (next r)) → Within may (bind (recordIn image) next)
   of-image image next t u n = by-bind (recordIn image) next (from-image image t u) n
+
+-- ---- a read: from 1 to 14, as the schema's law has it
+
+readNumber : ℕ → Bool
+readNumber n = leb n 14 || eqb n 200
+
+of-read : (s : List ℕ) → Octets s → Within readNumber (read s)
+unfolding readNumber
+of-read s o = go (read s) refl
+  where
+    go : (a : Answer (Content × ℕ)) → read s ≡ a → Within readNumber a
+    go (got c) e = tt
+    go (refused k q) e = let n = read-refuses asOctets s o k q e in (rw (le-leb k 14 (omega (arith, n))) tt, omega (arith, n))
+
+pub read-answers : ReadAnswers
+unfolding readInto readNumber
+read-answers s image o =
+    by-count readNumber (λ c. c .1) (readInto s image) tt (by-guard readNumber (leb 410 (length image)) 200 0 (read s) (tt, omega arith) (of-read s o))
+
+-- ---- a write and an octet field
 
 pub write-answers : WriteAnswers
 unfolding writeImage written

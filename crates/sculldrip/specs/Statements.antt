@@ -1,4 +1,4 @@
--- What is proved of the answers of include/sculldrip.h, beyond that they are those of Calls. Read first WriteAnswers and its
+-- What is proved of the answers of include/sculldrip.h, beyond that they are those of Calls. Read first ReadAnswers and its
 -- neighbours: which numbers a caller can meet (proofs/Numbers.antt); then SameWritten and its neighbours: what is not looked
 -- at does not matter (proofs/Same.antt); then ReadBack: what stands in an image after a read (proofs/ImageRead.antt).
 use mathlib.Core.Path.{_≡_}
@@ -7,11 +7,12 @@ use mathlib.Core.List.{List, [], _∷_}
 use Prim.Native.Nat.{ℕ, _%_, _≤_}
 use lib.Dec.{T, eqb, leb}
 use lib.ListN.{length, drop}
+use Rattle.codec.specs.Octets.{Octets}
 use Rattle.reader.specs.declared.Outcome.{Outcome}
 use Rattle.reader.specs.Reading.{Reads}
 use Rattle.image.specs.Image.{recordOf, wordsFit}
 use Rattle.image.specs.Agree.{Agree}
-use Rattle.sculldrip.specs.Calls.{ImageOfRead, writeAnswer, writeLeaves, askAnswer, askLeaves, ruleAnswer, enrolAnswer, listAnswer}
+use Rattle.sculldrip.specs.Calls.{ImageOfRead, readAnswer, writeAnswer, writeLeaves, askAnswer, askLeaves, ruleAnswer, enrolAnswer, listAnswer}
 
 -- "Its low byte is 0 where the function did what it is for .. else the low byte is the refusal's number"
 abbrev pub lowByte : ℕ → ℕ
@@ -20,6 +21,10 @@ lowByte answer = answer % 256
 abbrev pub oneOf : List ℕ → ℕ → Bool
 oneOf [] n = false
 oneOf (k ∷ ks) n = eqb n k || oneOf ks n
+
+-- "Refusals 1 to 14, and 200"
+abbrev pub ReadAnswers : Type 0
+ReadAnswers = (s image : List ℕ) → Octets s → T (leb (lowByte (readAnswer s image)) 14 || eqb (lowByte (readAnswer s image)) 200)
 
 -- "Refusals 20, 22 and 21 in that order, and 200"
 abbrev pub WriteAnswers : Type 0
