@@ -11,6 +11,7 @@ use lib.Dec.{eqb, leb, eqb→eq}
 use Rattle.answer.specs.Answer.{pick}
 use Rattle.schema.specs.Table.{Kind, set, number32, number64, null, octets, root, rows, rowAt, top32}
 use Rattle.records.specs.Rows.{allBelow}
+use Rattle.schema.specs.Content.{placeAt}
 use Rattle.records.proofs.Rowwise.{all-agree}
 use Rattle.records.specs.declared.NumberSet.{NumberSet}
 use Rattle.records.specs.declared.FieldList.{FieldList}
@@ -178,6 +179,6 @@ not-looked-at w w′ a =
       fits = words-fit-same w w′ a;
       shaped = record-shaped (recordOf w) (recordOf w′) r;
       inside = record-inside (recordOf w) (recordOf w′) r;
-      says = record-same (recordOf w) (recordOf w′) r;
+      says = record-same (recordOf w) (recordOf w′) r placeAt;
       asked = record-asked (recordOf w) (recordOf w′) r;
     }

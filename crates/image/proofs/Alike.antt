@@ -3,7 +3,7 @@
 use mathlib.Core.Path.{_≡_, refl, sym, ap, _∙_}
 use mathlib.Core.Bool.{Bool, true, false, _&&_, true≢false}
 use mathlib.Core.Option.{Option, none, some}
-use mathlib.Core.List.{List}
+use mathlib.Core.List.{List, [], _∷_}
 use Prim.Native.Nat.{ℕ, zero, suc, _<_, _≤_}
 use native.Mathlib.Omega.{arith}
 use lib.ListN.{length, getD, take}
@@ -13,17 +13,17 @@ use borrow.Author.Tests.{le-leb, lt-leb}
 use Rattle.answer.specs.Answer.{Answer, got, refused, guard, pick}
 use Rattle.answer.proofs.Logic.{by-le}
 use Rattle.schema.specs.Table.{Kind, set, number32, number64, null, octets, root, rows, rowAt, indexOf, heldIn, top32}
-use Rattle.schema.specs.Content.{Value, num, nul, oct, nums, trust}
+use Rattle.schema.specs.Content.{ValueWith, num, nul, oct, nums, trust, field}
 use Rattle.records.specs.Rows.{allBelow}
 use Rattle.records.proofs.Rowwise.{all-agree}
-use Rattle.records.proofs.Equal.{same-fields}
+use Rattle.records.proofs.UpTo.{upTo-agree}
 use Rattle.records.proofs.Asking.{no-row}
 use Rattle.records.specs.declared.Part.{Part}
 use Rattle.records.specs.declared.NumberSet.{NumberSet}
 use Rattle.records.specs.declared.RootOfTrust.{RootOfTrust}
 use Rattle.records.specs.declared.FieldList.{FieldList}
 use Rattle.records.specs.declared.Record.{Record}
-use Rattle.records.specs.Content.{octetsAt, partOf, membersOf, rootOf, setAt, valueAt, fieldsOf, contentOf}
+use Rattle.records.specs.Content.{membersOf, rootOf, setAt, valueAt, fieldAt, fieldsOf, contentWith}
 use Rattle.records.specs.Equal.{presentAt, contentAt}
 use Rattle.records.specs.Shape.{memberShaped, setShaped, rootShaped, valueShaped, rowShaped, listShaped, wellShapedRecord}
 use Rattle.records.specs.Parts.{partInside, rootInside, contentInside, rowInside, listInside, partsInside}
@@ -105,9 +105,9 @@ module _ (t t′ : RootOfTrust) (a : AlikeRoot t t′) where
   unfolding rootInside
   root-inside len = rw (a .key, pick-agree (t .hashed) (t′ .hashed) (partInside (t .hash) len) (partInside (t′ .hash) len) true (a .hashed) (λ h. ap (λ (p : Part). partInside p len) (a .hash h))) refl
 
-  root-same : (s : List ℕ) → rootOf (octetsAt s) t ≡ rootOf (octetsAt s) t′
-  root-same s =
-      rw (a .key, a .locked, a .state, pick-agree (t .hashed) (t′ .hashed) (some (partOf s (t .hash))) (some (partOf s (t′ .hash))) none (a .hashed) (λ h. ap (λ (p : Part). some (partOf s p)) (a .hash h))) refl
+  root-same : {O : Type 0} (part : ℕ → ℕ → O) → rootOf part t ≡ rootOf part t′
+  root-same part =
+      rw (a .key, a .locked, a .state, pick-agree (t .hashed) (t′ .hashed) (some (part (t .hash .start) (t .hash .len))) (some (part (t′ .hash .start) (t′ .hash .len))) none (a .hashed) (λ h. ap (λ (p : Part). some (part (p .start) (p .len))) (a .hash h))) refl
 
 -- ---- a field that is there
 
@@ -130,14 +130,14 @@ module _ (l l′ : FieldList) (n k : ℕ) where
   value-inside len octets a = rw (a .0, a .1) refl
   value-inside len root a = root-inside (l .root) (l′ .root) a len
 
-  value-same : (s : List ℕ) (kind : Kind) → AlikeValue kind l l′ n k → valueAt l (octetsAt s) n kind k ≡ valueAt l′ (octetsAt s) n kind k
+  value-same : {O : Type 0} (part : ℕ → ℕ → O) (kind : Kind) → AlikeValue kind l l′ n k → valueAt l part n kind k ≡ valueAt l′ part n kind k
   unfolding valueAt
-  value-same s set a = ap nums (members-same (setAt l n) (setAt l′ n) a)
-  value-same s number32 a = ap num a
-  value-same s number64 a = ap num a
-  value-same s null a = refl
-  value-same s octets a = rw (a .0, a .1) refl
-  value-same s root a = ap trust (root-same (l .root) (l′ .root) a s)
+  value-same part set a = ap nums (members-same (setAt l n) (setAt l′ n) a)
+  value-same part number32 a = ap num a
+  value-same part number64 a = ap num a
+  value-same part null a = refl
+  value-same part octets a = rw (a .0, a .1) refl
+  value-same part root a = ap trust (root-same (l .root) (l′ .root) a part)
 
   value-asked : (len : ℕ) (kind : Kind) (b b′ : Bool) → b ≡ b′ → (b ≡ true → AlikeValue kind l l′ n k)
       → askedOf kind b (getD (l .values) k 0) (getD (l .sizes) k 0) len ≡ askedOf kind b′ (getD (l′ .values) k 0) (getD (l′ .sizes) k 0) len
@@ -166,10 +166,12 @@ module _ (l l′ : FieldList) (a : (k : ℕ) → k < 42 → AlikeRow l l′ k) w
       (λ k h. pick-agree (presentAt l k) (presentAt l′ k) _ _ true (a k h .held)
       (λ p. value-inside l l′ (rowAt k .number) k len (rowAt k .kind) (a k h .value p)))
 
-  pub list-same : (s : List ℕ) → fieldsOf l (octetsAt s) ≡ fieldsOf l′ (octetsAt s)
-  list-same s =
-      same-fields l s l′ s
-      (λ k h. record { held = a k h .held; says = λ p. value-same l l′ (rowAt k .number) k s (rowAt k .kind) (a k h .value p) })
+  pub list-same : {O : Type 0} (part : ℕ → ℕ → O) → fieldsOf l part ≡ fieldsOf l′ part
+  unfolding fieldAt
+  list-same {O} part =
+      upTo-agree (fieldAt l part) (fieldAt l′ part) 42
+      (λ k h. pick-agree (presentAt l k) (presentAt l′ k) _ _ [] (a k h .held)
+      (λ p. ap (λ (v : ValueWith O). field (rowAt k .number) v ∷ []) (value-same l l′ (rowAt k .number) k part (rowAt k .kind) (a k h .value p))))
 
   pub list-asked : (number len : ℕ) → askedAt l (indexOf rows number) len ≡ askedAt l′ (indexOf rows number) len
   list-asked number len =
@@ -200,8 +202,8 @@ module _ (r r′ : Record) (a : AlikeRecord r r′) where
   unfolding partsInside
   record-inside len = rw (a .challenge, a .unique, list-inside (r .software) (r′ .software) (a .software) len, list-inside (r .hardware) (r′ .hardware) (a .hardware) len) refl
 
-  pub record-same : (s : List ℕ) → contentOf r s ≡ contentOf r′ s
-  record-same s = rw (a .attestation, a .keymint, a .challenge, a .unique, list-same (r .software) (r′ .software) (a .software) s, list-same (r .hardware) (r′ .hardware) (a .hardware) s) refl
+  pub record-same : {O : Type 0} (part : ℕ → ℕ → O) → contentWith part r ≡ contentWith part r′
+  record-same part = rw (a .attestation, a .keymint, a .challenge, a .unique, list-same (r .software) (r′ .software) (a .software) part, list-same (r .hardware) (r′ .hardware) (a .hardware) part) refl
 
   pub record-asked : (hardware : Bool) (number len : ℕ) → askedOctets r hardware number len ≡ askedOctets r′ hardware number len
   unfolding askedOctets pick

@@ -6,7 +6,7 @@ use mathlib.Core.List.{List, _++_}
 use Prim.Native.Nat.{ℕ}
 use lib.ListN.{take}
 use Rattle.records.specs.declared.Record.{Record}
-use Rattle.records.specs.Content.{contentOf}
+use Rattle.records.specs.Content.{placesOf}
 use Rattle.records.specs.Shape.{wellShapedRecord}
 use Rattle.records.specs.Parts.{partsInside}
 use Rattle.records.specs.Asked.{askedOctets}
@@ -27,7 +27,7 @@ pub record SameAnswers (w w′ : List ℕ) : Type 0 where
   pub fits : wordsFit w ≡ wordsFit w′
   pub shaped : wellShapedRecord (recordOf w) ≡ wellShapedRecord (recordOf w′)
   pub inside : (len : ℕ) → partsInside (recordOf w) len ≡ partsInside (recordOf w′) len
-  pub says : (s : List ℕ) → contentOf (recordOf w) s ≡ contentOf (recordOf w′) s
+  pub says : placesOf (recordOf w) ≡ placesOf (recordOf w′)
   pub asked : (hardware : Bool) (number len : ℕ) → askedOctets (recordOf w) hardware number len ≡ askedOctets (recordOf w′) hardware number len
 
 -- what is not looked at does not matter

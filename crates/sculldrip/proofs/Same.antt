@@ -10,17 +10,23 @@ use lib.Dec.{eqb, leb}
 use borrow.Author.Tests.{le-leb}
 use Rattle.answer.specs.Answer.{Answer, got, refused, guard, bind}
 use Rattle.answer.specs.Refusal.{illShaped}
-use Rattle.schema.specs.Content.{Content, encode}
+use Rattle.schema.specs.Content.{Content, Places, octetsIn, mapContent, encode}
+use Rattle.records.specs.Content.{contentOf}
+use Rattle.records.proofs.PlacesRead.{content-there}
 use Rattle.records.specs.declared.Record.{Record}
 use Rattle.records.specs.Asked.{askedOctets}
 use Rattle.writer.specs.Written.{written, leftBy}
+use Rattle.ruling.specs.declared.request.Request.{Request}
+use Rattle.ruling.specs.Rules.{rulesOf}
+use Rattle.ruling.specs.Ruling.{Permit, ruling}
+use Rattle.enrolment.specs.Enrolled.{enrolled}
 use Rattle.image.specs.Image.{recordOf, wordsFit, recordIn}
 use Rattle.image.specs.Agree.{Agree}
 use Rattle.image.specs.Statements.{SameAnswers}
 use Rattle.image.proofs.Agree.{not-looked-at}
 use Rattle.sculldrip.specs.Packed.{packed}
-use Rattle.sculldrip.specs.Calls.{atLeast, ofImage, counted, leaves, asked, partWords, recordLeaves, writeImage, writeLeaves, askImage}
-use Rattle.sculldrip.specs.Statements.{SameWritten, SameOctets}
+use Rattle.sculldrip.specs.Calls.{atLeast, ofImage, counted, leaves, asked, partWords, recordLeaves, writeImage, writeLeaves, askImage, requestOf, permitWords, ruleImage, enrolImage}
+use Rattle.sculldrip.specs.Statements.{SameWritten, SameOctets, SameRuled, SameEnrolled}
 
 -- the record of a whole image, where its words fit
 in-long : (w : List ℕ) → 410 ≤ length w → recordIn w ≡ guard (wordsFit w) illShaped 0 (got (recordOf w))
@@ -46,14 +52,45 @@ module _ (w w′ : List ℕ) (a : Agree w w′) where
       go true = e
       go false = refl
 
+  -- the same places, so the same content in any buffer
+  says-same : (s : List ℕ) → contentOf (recordOf w) s ≡ contentOf (recordOf w′) s
+  says-same s = sym (content-there s (recordOf w)) ∙ ap (mapContent (octetsIn s)) (not-looked-at w w′ a .says) ∙ content-there s (recordOf w′)
+
   written-same : (s out : List ℕ) → written (recordOf w) s out ≡ written (recordOf w′) s out
   unfolding written
   written-same s out =
       let e = not-looked-at w w′ a in
-      rw (e .shaped, e .inside (length s), ap encode (e .says s)) refl
+      rw (e .shaped, e .inside (length s), ap encode (says-same s)) refl
 
   left-same : (s out : List ℕ) → leftBy (recordOf w) s out ≡ leftBy (recordOf w′) s out
-  left-same s out = rw (written-same s out, ap encode (not-looked-at w w′ a .says s)) refl
+  left-same s out = rw (written-same s out, ap encode (says-same s)) refl
+
+  ruled-same : (q : Request) → ruling (recordOf w) q ≡ ruling (recordOf w′) q
+  unfolding ruling
+  ruled-same q =
+      let e = not-looked-at w w′ a in
+      let c = e .says in
+      rw (
+        e .shaped,
+        ap (λ (x : Places). x .level) c,
+        ap (λ (x : Places). x .keymintLevel) c,
+        ap (λ (x : Places). rulesOf (x .software)) c,
+        ap (λ (x : Places). rulesOf (x .hardware)) c,
+      ) refl
+
+  enrolled-same : (s expected : List ℕ) → enrolled (recordOf w) s expected ≡ enrolled (recordOf w′) s expected
+  unfolding enrolled
+  enrolled-same s expected =
+      let e = not-looked-at w w′ a in
+      let c = e .says in
+      rw (
+        e .shaped,
+        e .inside (length s),
+        ap (λ (x : Places). x .level) c,
+        ap (λ (x : Places). x .keymintLevel) c,
+        ap (λ (x : Content). x .challenge) (says-same s),
+        ap (λ (x : Places). x .hardware) c,
+      ) refl
 
 pub same-written : SameWritten
 unfolding writeImage
@@ -65,3 +102,16 @@ unfolding askImage
 same-octets w w′ hardware number len part a =
     let e = ap (λ (x : Answer (Option (ℕ × ℕ))). atLeast 2 part x) (of-same w w′ a (λ r. askedOctets r (not (eqb hardware 0)) number len) (not-looked-at w w′ a .asked (not (eqb hardware 0)) number len)) in
     (ap (λ (x : Answer (Option (ℕ × ℕ))). packed (counted asked x)) e, ap (λ (x : Answer (Option (ℕ × ℕ))). leaves partWords x part) e)
+
+pub same-ruled : SameRuled
+unfolding ruleImage
+same-ruled w w′ request permit a =
+    let e =
+    ap (λ (x : Answer Permit). atLeast 16 request (atLeast 4 permit x))
+    (of-same w w′ a (λ r. ruling r (requestOf request)) (ruled-same w w′ a (requestOf request))) in
+    (ap (λ (x : Answer Permit). packed (counted (λ p. 0) x)) e, ap (λ (x : Answer Permit). leaves permitWords x permit) e)
+
+pub same-enrolled : SameEnrolled
+unfolding enrolImage
+same-enrolled w w′ s expected a =
+    ap (λ (x : Answer (Unit {0})). packed (counted (λ u. 0) x)) (of-same w w′ a (λ r. enrolled r s expected) (enrolled-same w w′ a s expected))

@@ -12,7 +12,7 @@ use Rattle.reader.specs.declared.Outcome.{Outcome}
 use Rattle.reader.specs.Reading.{Reads}
 use Rattle.image.specs.Image.{recordOf, wordsFit}
 use Rattle.image.specs.Agree.{Agree}
-use Rattle.sculldrip.specs.Calls.{ImageOfRead, readAnswer, writeAnswer, writeLeaves, askAnswer, askLeaves, ruleAnswer, enrolAnswer, listAnswer}
+use Rattle.sculldrip.specs.Calls.{ImageOfRead, readAnswer, writeAnswer, writeLeaves, askAnswer, askLeaves, ruleAnswer, ruleLeaves, enrolAnswer, listAnswer}
 
 -- "Its low byte is 0 where the function did what it is for .. else the low byte is the refusal's number"
 abbrev pub lowByte : ℕ → ℕ
@@ -68,6 +68,15 @@ SameOctets =
     (w w′ : List ℕ) (hardware number len : ℕ) (part : List ℕ) → Agree w w′
     → (askAnswer w hardware number len part ≡ askAnswer w′ hardware number len part)
     × (askLeaves w hardware number len part ≡ askLeaves w′ hardware number len part)
+
+-- and get the same rulings
+abbrev pub SameRuled : Type 0
+SameRuled =
+    (w w′ request permit : List ℕ) → Agree w w′
+    → (ruleAnswer w request permit ≡ ruleAnswer w′ request permit) × (ruleLeaves w request permit ≡ ruleLeaves w′ request permit)
+
+abbrev pub SameEnrolled : Type 0
+SameEnrolled = (w w′ s expected : List ℕ) → Agree w w′ → enrolAnswer w s expected ≡ enrolAnswer w′ s expected
 
 -- ---- what a read that accepts leaves, said of the image alone
 
