@@ -13,7 +13,7 @@ use Rattle.answer.proofs.Answer.{got-inj, refused-got, bind-got, bind-case}
 use Rattle.codec.specs.Octets.{Octets, Taken}
 use Rattle.codec.specs.Element.{chainFuel, chain, chainOctets, chainGood}
 use Rattle.codec.proofs.Octets.{octets-right}
-use Rattle.codec.proofs.Codec.{Whole, Front}
+use Rattle.codec.specs.Codec.{Whole, Front}
 
 module _ {S A : Type 0} (rd : S → ℕ → List ℕ → Answer (Taken A)) (after : S → A → S) (enc : A → List ℕ) (good : S → A → Bool)
     (laws : (s : S) → Front enc (good s) (rd s)) (long : (a : A) → 0 < length (enc a)) where

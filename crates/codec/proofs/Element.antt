@@ -16,7 +16,8 @@ use Rattle.codec.specs.Shortest.{lengthOctets}
 use Rattle.codec.specs.Header.{Identifier, identifier, header, readHeader, identifierOctets, identifierGood, lengthGood, headerOctets, elementOctets}
 use Rattle.codec.specs.Element.{element, tagged, exactly, both, under}
 use Rattle.codec.proofs.Octets.{octets-left, octets-right, same-taken}
-use Rattle.codec.proofs.Codec.{Whole, Front, Inside, regood}
+use Rattle.codec.specs.Codec.{Whole, Front, Inside}
+use Rattle.codec.proofs.Codec.{regood}
 use Rattle.codec.proofs.Header.{same-identifier, header-back, header-sound}
 
 -- ---- an element's octets

@@ -14,7 +14,7 @@ use Rattle.codec.specs.Octets.{Octets, Taken, taken, mapTaken}
 use Rattle.codec.specs.Header.{Identifier, Header, readHeader, headerOctets}
 use Rattle.codec.specs.Element.{element, tagged, exactly, both, chainFuel, chain, under}
 use Rattle.codec.proofs.Octets.{octets-left, octets-right}
-use Rattle.codec.proofs.Codec.{Front}
+use Rattle.codec.specs.Codec.{Front}
 use Rattle.codec.proofs.Header.{header-sound, header-next}
 
 -- the octets bs stand at p in s

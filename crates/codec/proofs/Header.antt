@@ -17,7 +17,7 @@ use Rattle.codec.specs.Shortest.{lengthOctets}
 use Rattle.codec.specs.Header.{Identifier, identifier, readHighNumber, readIdentifier, readLength, Header, header, reported, readHeader, identifierOctets, identifierGood, lengthGood, headerOctets}
 use Rattle.codec.proofs.Octets.{octets-right, same-taken, octet-case}
 use Rattle.codec.proofs.Shortest.{length-short, length-one, length-two}
-use Rattle.codec.proofs.Codec.{Front}
+use Rattle.codec.specs.Statements.{IdentifierLaws, LengthLaws}
 
 pub same-identifier : (a b f n : ℕ) → a ≡ f → b ≡ n → identifier a b ≡ identifier f n
 same-identifier a b f n e q = rw (e, q)
@@ -90,7 +90,7 @@ identifier-sound p bs w o e =
     let q : a / 32 * 32 + a % 32 ≡ a = omega arith in
     rw (← got-inj e₂) (identifier-good (a / 32) (a % 32) (omega arith) (omega arith), rw (one-octet (identifier (a / 32) (a % 32)) h, q, ea)))
 
-pub identifier-laws : Front identifierOctets identifierGood readIdentifier
+pub identifier-laws : IdentifierLaws
 identifier-laws = record { back = identifier-back; sound = identifier-sound }
 
 -- ---- the length
@@ -125,7 +125,7 @@ length-sound p bs w o e =
     rw (← got-inj e₇) (lt→ltb (b * 256 + c) 65536 small, rw (length-two (b * 256 + c) (omega arith) small, q, m, ea, eb, ec, eqb→eq a 130 t)))
     (λ f″ e₄. absurd (refused-got e₄))))
 
-pub length-laws : Front lengthOctets lengthGood readLength
+pub length-laws : LengthLaws
 length-laws = record { back = length-back; sound = length-sound }
 
 -- ---- both

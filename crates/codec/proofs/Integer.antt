@@ -16,7 +16,7 @@ use Rattle.answer.proofs.Answer.{guard-yes, guard-case, got-inj, refused-got}
 use Rattle.codec.specs.Octets.{Octets}
 use Rattle.codec.specs.Shortest.{bigEndian, lowOctets, bits, integerSize, integerOctets}
 use Rattle.codec.specs.Integer.{integerOf}
-use Rattle.codec.proofs.Codec.{Whole}
+use Rattle.codec.specs.Statements.{IntegerLaws}
 use Rattle.codec.proofs.Shortest.{bits-le, bits-gt, lt-bits, eight, bigEndian-lt, bigEndian-back, lowOctets-back, integerSize-is}
 
 below-shr : (n j k : ℕ) → n / 2 ^ k < 2 ^ j → n < 2 ^ (j + k)
@@ -87,7 +87,7 @@ module _ (top number p : ℕ) where
       (rw (← v) (leb→le (bigEndian (a ∷ b ∷ r)) top y), rw (← v) (size-of (a ∷ b ∷ r) (suc m) o refl hi lo))
 
 -- within the top, the content is the shortest octets and nothing else
-pub integer-laws : (top number : ℕ) → Whole integerOctets (λ n. leb n top) (λ p q bs. integerOf top number p bs)
+pub integer-laws : IntegerLaws
 integer-laws top number = record {
   back = λ p q n t. integer-back top number p n (leb→le n top t);
   sound = λ p q bs n o e. let s = integer-sound top number p bs n o e in (le→leb n top (s .0), s .1);

@@ -10,7 +10,7 @@ use Rattle.answer.proofs.Answer.{got-inj, refused-got, guard-case, bind-case}
 use Rattle.codec.specs.Octets.{Taken, taken, mapTaken}
 use Rattle.codec.specs.Header.{Identifier}
 use Rattle.codec.specs.Element.{element, tagged, exactly, both, chainFuel, chain, under}
-use Rattle.codec.proofs.Codec.{Front}
+use Rattle.codec.specs.Codec.{Front}
 use Rattle.codec.proofs.Follow.{At, at-take, at-header, at-next, Follows}
 
 -- all of a list

@@ -11,6 +11,7 @@ use Rattle.codec.specs.Octets.{Taken, octet}
 use Rattle.codec.specs.Header.{readHighNumber, readIdentifier, readLength, Header, reported, readHeader}
 use Rattle.codec.specs.Element.{exactly}
 use Rattle.codec.specs.Tree.{Node, Nodes, nodes, run, walkElement, firstPass}
+use Rattle.codec.specs.Statements.{FirstPassRefuses}
 use Rattle.codec.proofs.Ranges.{InRange}
 
 refusal-number : {A : Type 0} {k p n q : ℕ} → _≡_ {A = Answer A} (refused k p) (refused n q) → k ≡ n
@@ -96,7 +97,7 @@ element-refuses most (suc d) met p bs k q e =
     (λ ts v e₃. absurd (refused-got (sym e₃)))
 
 -- "Order: 1; then the whole first pass ..; then 7"
-pub first-pass-refuses : (bytes depth most : ℕ) (bs : List ℕ) (k q : ℕ) → firstPass bytes depth most bs ≡ refused k q → InRange 1 7 k
+pub first-pass-refuses : FirstPassRefuses
 unfolding firstPass exactly
 first-pass-refuses bytes depth most bs k q e =
     guard-refuses _ _ _ _ e (λ n. (omega arith, omega arith)) λ t e₁.

@@ -10,12 +10,13 @@ use native.Mathlib.Nat.{add-zero, le-refl}
 use lib.ListN.{length, take, drop, length-append, take-append-drop}
 use lib.Seq.{take-append-seam, drop-append-seam, length-take-le}
 use lib.Dec.{T, ltb, leb, ltb→lt, lt→ltb, leb→le, le→leb}
-use Rattle.answer.specs.Answer.{Answer, got, guard, bind, pick}
+use Rattle.answer.specs.Answer.{Answer, got, refused, guard, bind, pick}
 use Rattle.answer.proofs.Answer.{guard-yes, guard-case, bind-got, bind-case, pick-yes, pick-no, pick-case, got-inj, refused-got}
 use Rattle.codec.specs.Octets.{Octets, Taken, taken}
 use Rattle.codec.specs.Header.{Identifier, holds, Header, header, headerOctets, elementOctets}
 use Rattle.codec.specs.Element.{exactly}
-use Rattle.codec.specs.Tree.{Node, Nodes, node, none, and, nodes, allNodes, run, walkElement, firstPass, octetsOf, runOctets, Each, Der}
+use Rattle.codec.specs.Tree.{Node, Nodes, node, none, and, nodes, allNodes, run, walkElement, firstPass, octetsOf, runOctets, Each, Der, Within}
+use Rattle.codec.specs.Statements.{FirstPassExactly, CountFew, RunEnough}
 use Rattle.codec.proofs.Octets.{octets-left, octets-right, same-taken}
 use Rattle.codec.proofs.Header.{Headed, header-sound, header-next}
 use Rattle.codec.proofs.Element.{element-header, element-length, element-long, element-whole, no-octets}
@@ -126,13 +127,6 @@ element-back most (suc depth) met p (node q i c ns) r d h =
 
 -- ---- the first pass
 
--- what is within the limits of bytes, depth and elements
-pub record Within (bytes depth most : ℕ) (bs : List ℕ) (t : Node) : Type 0 where
-  pub short : length bs ≤ bytes
-  pub der : Der depth 0 t
-  pub few : nodes t ≤ most
-  pub whole : octetsOf t ≡ bs
-
 module _ (bytes depth most : ℕ) (bs : List ℕ) (t : Node) where
   pub first-pass-sound : Octets bs → firstPass bytes depth most bs ≡ got t → Within bytes depth most bs t
   unfolding firstPass exactly
@@ -160,10 +154,36 @@ module _ (bytes depth most : ℕ) (bs : List ℕ) (t : Node) where
       ∙ bind-got _ _ _ (rw (append-nil, d .whole) at b)
       ∙ guard-yes _ _ _ _ tt
 
-  -- the first pass gives t exactly when the bytes are t's DER within the limits
-  pub first-pass-exactly : Octets bs → (firstPass bytes depth most bs ≡ got t) ↔ Within bytes depth most bs t
-  first-pass-exactly o = (first-pass-sound o, first-pass-back)
+pub first-pass-exactly : FirstPassExactly
+first-pass-exactly bytes depth most bs t o = (first-pass-sound bytes depth most bs t o, first-pass-back bytes depth most bs t)
 
--- the element count that is reported is at most the limit
-pub count-few : (bytes depth most : ℕ) (bs : List ℕ) (t : Node) → Octets bs → firstPass bytes depth most bs ≡ got t → nodes t ≤ most
+pub count-few : CountFew
 count-few bytes depth most bs t o e = first-pass-sound bytes depth most bs t o e .few
+
+-- ---- as many turns as octets are enough: more change nothing
+
+module _ (most depth f g : ℕ) (rest : (met p : ℕ) (bs : List ℕ) → Octets bs → length bs ≤ f → length bs ≤ g → run (walkElement most depth) f met p bs ≡ run (walkElement most depth) g met p bs) where
+  turn : (met p : ℕ) (bs : List ℕ) → Octets bs → length bs ≤ suc f → length bs ≤ suc g → (M : Answer (Taken Node)) → walkElement most depth met p bs ≡ M
+      → bind M (λ w. bind (run (walkElement most depth) f (met + nodes (w .val)) (w .next) (w .rest)) (λ ts. got (and (w .val) ts)))
+      ≡ bind M (λ w. bind (run (walkElement most depth) g (met + nodes (w .val)) (w .next) (w .rest)) (λ ts. got (and (w .val) ts)))
+  unfolding bind
+  turn met p bs o l m (got w) e =
+      let s = element-sound most depth met p bs w o e in
+      let n : length (octetsOf (w .val) ++ w .rest) ≡ length bs = ap length (s .whole) in
+      let z = node-long (w .val) in
+      let a = length-append (octetsOf (w .val)) (w .rest) in
+      rw (rest (met + nodes (w .val)) (w .next) (w .rest) (octets-right (octetsOf (w .val)) (w .rest) (rw (s .whole) o)) (omega arith) (omega arith)) refl
+  turn met p bs o l m (refused k q) e = refl
+
+run-turns : (most depth f g met p : ℕ) (bs : List ℕ) → Octets bs → length bs ≤ f → length bs ≤ g → run (walkElement most depth) f met p bs ≡ run (walkElement most depth) g met p bs
+run-turns most depth zero g met p [] o l m = run-none _ zero met p ∙ sym (run-none _ g met p)
+run-turns most depth (suc f) g met p [] o l m = run-none _ (suc f) met p ∙ sym (run-none _ g met p)
+run-turns most depth zero g met p (x ∷ xs) o l m = absurd (omega arith)
+run-turns most depth (suc f) zero met p (x ∷ xs) o l m = absurd (omega arith)
+run-turns most depth (suc f) (suc g) met p (x ∷ xs) o l m =
+    run-step _ f met p (x ∷ xs) (omega arith)
+    ∙ turn most depth f g (λ met p bs. run-turns most depth f g met p bs) met p (x ∷ xs) o l m (walkElement most depth met p (x ∷ xs)) refl
+    ∙ sym (run-step _ g met p (x ∷ xs) (omega arith))
+
+pub run-enough : RunEnough
+run-enough most depth f met p bs o l = run-turns most depth f (length bs) met p bs o l (le-refl _)

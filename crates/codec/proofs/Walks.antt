@@ -12,8 +12,8 @@ use Rattle.answer.specs.Answer.{got}
 use Rattle.answer.proofs.Logic.{and-left, and-right}
 use Rattle.codec.specs.Header.{Identifier, holds, identifierGood, lengthGood, headerOctets, elementOctets}
 use Rattle.codec.specs.Element.{chainOctets, chainGood, total}
-use Rattle.codec.specs.Tree.{Node, Nodes, node, none, and, nodes, allNodes, firstPass, octetsOf, runOctets, Each, Der}
-use Rattle.codec.proofs.Tree.{Within, first-pass-back}
+use Rattle.codec.specs.Tree.{Node, Nodes, node, none, and, nodes, allNodes, firstPass, octetsOf, runOctets, Each, Der, Within}
+use Rattle.codec.proofs.Tree.{first-pass-back}
 
 -- e is one element, at most d levels deep, of k elements in all, at whatever place it stands
 pub record One (d k : ℕ) (e : List ℕ) : Type 0 where

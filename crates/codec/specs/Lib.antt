@@ -5,3 +5,5 @@ pub mod Integer
 pub mod Element
 pub mod Tree
 pub mod Limits
+pub mod Codec
+pub mod Statements

@@ -2,7 +2,7 @@
 use mathlib.Core.Path.{_≡_}
 use mathlib.Core.Bool.{not}
 use mathlib.Core.List.{List, [], _∷_, _++_}
-use Prim.Native.Nat.{ℕ, zero, suc, _+_}
+use Prim.Native.Nat.{ℕ, zero, suc, _+_, _≤_}
 use lib.ListN.{length, take, drop}
 use lib.Dec.{T, ltb, leb}
 use Rattle.answer.specs.Answer.{Answer, got, refused, guard, bind, pick}
@@ -83,3 +83,10 @@ Der (suc depth) p (node q i c ns) =
     × T (lengthGood (length c))
     × (T (holds i) → (runOctets ns ≡ c) × Each (Der depth) (p + length (headerOctets i (length c))) ns)
     × (T (not (holds i)) → ns ≡ none)
+
+-- bytes that are the DER of t within limits of bytes, depth and elements
+pub record Within (bytes depth most : ℕ) (bs : List ℕ) (t : Node) : Type 0 where
+  pub short : length bs ≤ bytes
+  pub der : Der depth 0 t
+  pub few : nodes t ≤ most
+  pub whole : octetsOf t ≡ bs

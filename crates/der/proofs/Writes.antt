@@ -23,7 +23,7 @@ use Rattle.codec.specs.Header.{Identifier, identifier, identifierOctets, header
 use Rattle.codec.proofs.Splice.{splice-nothing, splice-one, splice-splice, splice-before, splice-stores}
 use Rattle.codec.proofs.Shortest.{bits-le, length-lowOctets, length-short, length-long}
 use Rattle.codec.proofs.Header.{one-octet, two-octets, three-octets}
-use Rattle.der.specs.Write.{headerWritten, roomFor}
+use Rattle.der.specs.Write.{headerPut, roomFor}
 use Rattle.der.proofs.Bits.{low7}
 use Rattle.der.proofs.Sizes.{identifier-size-one, identifier-size-two, identifier-size-three}
 
@@ -172,28 +172,28 @@ module _ (old : List ℕ) (at f n z : ℕ) where
       let i = identifier f n in
       rw (q, p, e f) (splice-splice old at (identifierOctets i) (lengthOctets z) (omega (arith, length-append (identifierOctets i) (lengthOctets z))))
 
-  pub no-form : 8 ≤ f → headerWritten old at (identifier f n) z ≡ refused 3 at
-  unfolding headerWritten guard
+  pub no-form : 8 ≤ f → headerPut old at (identifier f n) z ≡ refused 3 at
+  unfolding headerPut guard
   no-form h = rw (le-ltb f 8 h) refl
 
-  pub no-number : f < 8 → 16384 ≤ n → headerWritten old at (identifier f n) z ≡ refused 3 at
-  unfolding headerWritten guard
+  pub no-number : f < 8 → 16384 ≤ n → headerPut old at (identifier f n) z ≡ refused 3 at
+  unfolding headerPut guard
   no-number h l = rw (lt-ltb f 8 h, le-ltb n 16384 l) refl
 
-  pub no-size : f < 8 → n < 16384 → 65536 ≤ z → headerWritten old at (identifier f n) z ≡ refused 4 at
-  unfolding headerWritten guard
+  pub no-size : f < 8 → n < 16384 → 65536 ≤ z → headerPut old at (identifier f n) z ≡ refused 4 at
+  unfolding headerPut guard
   no-size h l s = rw (lt-ltb f 8 h, lt-ltb n 16384 l, le-ltb z 65536 s) refl
 
   module _ (m k : ℕ) (e : (g : ℕ) → m ≡ length (identifierOctets (identifier g n))) (e₂ : k ≡ length (lengthOctets z)) where
     pub header-octets : length (headerOctets (identifier f n) z) ≡ m + k
     header-octets = omega (arith, header-length (identifier f n) z, e f)
 
-    pub no-space : f < 8 → n < 16384 → z < 65536 → false ≡ leb (at + (m + k)) (length old) → headerWritten old at (identifier f n) z ≡ refused 21 0
-    unfolding headerWritten roomFor guard
+    pub no-space : f < 8 → n < 16384 → z < 65536 → false ≡ leb (at + (m + k)) (length old) → headerPut old at (identifier f n) z ≡ refused 21 0
+    unfolding headerPut roomFor guard
     no-space h l s r = rw (lt-ltb f 8 h, lt-ltb n 16384 l, lt-ltb z 65536 s, header-octets, ← r) refl
 
-    pub space : f < 8 → n < 16384 → z < 65536 → true ≡ leb (at + (m + k)) (length old) → headerWritten old at (identifier f n) z ≡ got (at + (m + k))
-    unfolding headerWritten roomFor guard
+    pub space : f < 8 → n < 16384 → z < 65536 → true ≡ leb (at + (m + k)) (length old) → headerPut old at (identifier f n) z ≡ got (at + (m + k))
+    unfolding headerPut roomFor guard
     space h l s r = rw (lt-ltb f 8 h, lt-ltb n 16384 l, lt-ltb z 65536 s, header-octets, ← r) refl
 
     pub enough : true ≡ leb (at + (m + k)) (length old) → at + length (headerOctets (identifier f n) z) ≤ length old

@@ -11,10 +11,10 @@ ghost use Rattle.codec.specs.Octets.{splice, left};
 ghost use Rattle.codec.specs.Shortest.{lowOctets, bits, integerSize, lengthSize, lengthOctets};
 ghost use Rattle.codec.specs.Integer.{integerElement};
 ghost use Rattle.codec.specs.Header.{identifier, identifierOctets, headerOctets};
-ghost use Rattle.der.specs.Write.{ofWritten, headerWritten, roomFor};
+ghost use Rattle.der.specs.Write.{ofPut, headerPut, roomFor};
 
 // The place after what was written; or a refusal with its place.
-pub enum Written {
+pub enum Put {
     Next(usize),
     Refused(u8, usize),
 }
@@ -126,25 +126,25 @@ fn write_header(out: &mut [u8], at: usize, form: u8, number: usize, size: usize)
 }
 
 // The header of an element with size content octets.
-pub fn put_header(out: &mut [u8], at: usize, form: u8, number: usize, size: usize) -> Written
-    ensures answer { λ r. ⌜ ofWritten r ≡ headerWritten (now (out .entry)) at (identifier form number) size ⌝ }
-    ensures output { λ r. ⌜ now (out .exit) ≡ left (headerWritten (now (out .entry)) at (identifier form number) size) (now (out .entry)) at (headerOctets (identifier form number) size) ⌝ }
+pub fn put_header(out: &mut [u8], at: usize, form: u8, number: usize, size: usize) -> Put
+    ensures answer { λ r. ⌜ ofPut r ≡ headerPut (now (out .entry)) at (identifier form number) size ⌝ }
+    ensures output { λ r. ⌜ now (out .exit) ≡ left (headerPut (now (out .entry)) at (identifier form number) size) (now (out .entry)) at (headerOctets (identifier form number) size) ⌝ }
 {
     if 8 <= form {
-        return Written::Refused(BAD_IDENTIFIER, at);
+        return Put::Refused(BAD_IDENTIFIER, at);
     }
     if 16384 <= number {
-        return Written::Refused(BAD_IDENTIFIER, at);
+        return Put::Refused(BAD_IDENTIFIER, at);
     }
     if 65536 <= size {
-        return Written::Refused(BAD_LENGTH, at);
+        return Put::Refused(BAD_LENGTH, at);
     }
     let n = identifier_size(number) + length_size(size);
     if has_room(out, at, n) {
         write_header(out, at, form, number, size);
-        return Written::Next(at + n);
+        return Put::Next(at + n);
     }
-    Written::Refused(OUTPUT_SHORT, 0)
+    Put::Refused(OUTPUT_SHORT, 0)
 }
 
 // The INTEGER x of n content octets, known to fit.
@@ -158,15 +158,15 @@ fn write_integer(out: &mut [u8], at: usize, x: u64, n: usize)
 }
 
 // The INTEGER x: 02, its length and its shortest content.
-pub fn put_integer(out: &mut [u8], at: usize, x: u64) -> Written
-    ensures answer { λ r. ⌜ ofWritten r ≡ roomFor (now (out .entry)) at (integerElement x) ⌝ }
+pub fn put_integer(out: &mut [u8], at: usize, x: u64) -> Put
+    ensures answer { λ r. ⌜ ofPut r ≡ roomFor (now (out .entry)) at (integerElement x) ⌝ }
     ensures output { λ r. ⌜ now (out .exit) ≡ left (roomFor (now (out .entry)) at (integerElement x)) (now (out .entry)) at (integerElement x) ⌝ }
 {
     let n = integer_size(x);
     let size = 2 + n;
     if has_room(out, at, size) {
         write_integer(out, at, x, n);
-        return Written::Next(at + size);
+        return Put::Next(at + size);
     }
-    Written::Refused(OUTPUT_SHORT, 0)
+    Put::Refused(OUTPUT_SHORT, 0)
 }

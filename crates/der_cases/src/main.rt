@@ -7,7 +7,7 @@
 // i: output length, place and number: what put_integer answers and leaves.
 use der::walk::Limits;
 use der::walk::Walked;
-use der::write::Written;
+use der::write::Put;
 use libc::STDOUT_FILENO;
 ghost use Prim.Native.Nat.{_+_, _<_, _≤_};
 
@@ -63,13 +63,13 @@ fn say_octet(x: u8) {
 }
 
 // The answer, and all of the output.
-fn say_written(answer: Written, out: &[u8; 16]) {
+fn say_written(answer: Put, out: &[u8; 16]) {
     match answer {
-        Written::Next(place) => {
+        Put::Next(place) => {
             say(b"next ");
             io::print_decimal(STDOUT_FILENO, place as u64);
         }
-        Written::Refused(number, place) => say_refusal(number, place),
+        Put::Refused(number, place) => say_refusal(number, place),
     }
     let mut k: usize = 0;
     while k < 16 {

@@ -2,6 +2,7 @@
 -- records are those of equal contents (records Equal); the rest cites the contracts. Assumes nothing.
 use mathlib.Core.Path.{_≡_, refl, sym, ap, subst, _∙_}
 use mathlib.Core.Bool.{Bool, true, false, _&&_}
+use mathlib.Core.Logic.{inl, inr}
 use mathlib.Core.List.{List, _++_}
 use Prim.Native.Nat.{ℕ, _≤_, _<_}
 use native.Mathlib.Omega.{arith}
@@ -15,7 +16,7 @@ use Rattle.answer.proofs.Answer.{got-inj, refused-got, guard-yes, guard-case}
 use Rattle.answer.proofs.Logic.{and-left, and-right, and-both}
 use Rattle.codec.specs.Octets.{Octets, splice, left}
 use Rattle.codec.proofs.Walks.{top}
-use Rattle.schema.specs.Content.{Content, encode}
+use Rattle.schema.specs.Content.{Content, Place, encode}
 use Rattle.schema.specs.Count.{countOf}
 use Rattle.schema.specs.Decode.{read, readPlaces, asPlace}
 use Rattle.schema.proofs.Places.{octets-at-places}
@@ -39,7 +40,7 @@ use Rattle.reader.proofs.Answered.{same-answer, some-answer}
 use Rattle.writer.specs.declared.Written.{Written}
 use Rattle.writer.specs.Written.{encodingOf, writable, written, ofWritten, Writes}
 use Rattle.one_record.specs.Contracts.{ReadsAs}
-use Rattle.one_record.specs.Statements.{OneAnswer, ReadRefuses, SchemaRefuses, AcceptedExactly, EqualSameBytes, Encodable, EncodingAccepted, ReadsBackEqual, OnlyEncoding, EncodingSmall, WritesJustThat, RefusedUntouched, RefusesInOrder, WriteRefuses, WriteOfRead, ReadOfWrite}
+use Rattle.one_record.specs.Statements.{OneAnswer, ReadRefuses, SchemaRefuses, AcceptedExactly, EqualSameBytes, Encodable, EncodingAccepted, ReadsBackEqual, OnlyEncoding, EncodingSmall, WritesJustThat, RefusedUntouched, RefusesInOrder, WriteNumbers, WriteRefuses, WriteOfRead, ReadOfWrite}
 use Rattle.one_record.proofs.ContentOctets.{content-octets}
 
 -- ---- one answer
@@ -50,10 +51,10 @@ one-answer s b =
     (a .0, a .1, a .2, λ o′ r′ g. same-answer s (a .0) o′ (a .1) r′ (a .2) g)
 
 pub read-refuses : ReadRefuses
-read-refuses s k p r b g = refusals.read-refuses asPlace s b k p (sym (g .is))
+read-refuses s k p r b g = refusals.read-refuses Place asPlace s b k p (sym (g .is))
 
 pub schema-refuses : SchemaRefuses
-schema-refuses s k p r t b e g = refusals.after-first-pass asPlace s t b e k p (sym (g .is))
+schema-refuses s k p r t b e g = refusals.after-first-pass Place asPlace s t b e k p (sym (g .is))
 
 -- ---- what is accepted
 
@@ -101,6 +102,11 @@ encoding-small r s h =
     top 8192 5 313 (encode-one 0 c (shaped-good c t (content-octets r s (h .octets)) (h .short))) (count-few c t) (h .short)
 
 -- ---- the writer
+
+guard-at {ℓ} : {A : Type 0} {X : Type ℓ} (b : Bool) (n p : ℕ) (m : Answer A) {k q : ℕ} → guard b n p m ≡ refused k q → (n ≡ k → p ≡ q → X) → (m ≡ refused k q → X) → X
+unfolding guard
+guard-at true n p m {k} {q} e f g = g e
+guard-at false n p m {k} {q} e f g = f (let z : n ≡ k = cc in z) (let z : p ≡ q = cc in z)
 
 wrote-is : (w : Written) (n : ℕ) → ofWritten w ≡ got n → w ≡ Written.Wrote n
 wrote-is (Written.Wrote k) n e = ap Written.Wrote (got-inj e)
@@ -171,6 +177,14 @@ write-refuses r s out after w g = record {
   long = λ t i a. refused-is w 22 0 (g .answer ∙ too-long r s out t i a);
   narrow = λ t i a b. refused-is w 21 0 (g .answer ∙ too-narrow r s out t i a b);
 }
+
+pub write-numbers : WriteNumbers
+unfolding written
+write-numbers r s out after k p g =
+    let e = sym (g .answer) in
+    guard-at _ _ _ _ e (λ n q. (sym q, inl (sym n)))
+    (λ e₁. guard-at _ _ _ _ e₁ (λ n q. (sym q, inr (inr (sym n))))
+    (λ e₂. guard-at _ _ _ _ e₂ (λ n q. (sym q, inr (inl (sym n)))) (λ e₃. absurd (refused-got (sym e₃)))))
 
 -- ---- both
 

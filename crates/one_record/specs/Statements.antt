@@ -1,7 +1,7 @@
 -- One record, one encoding: what is proved of the reader and the writer together (document 01, demands 2 and 3). Each
 -- statement stands under the sentence that it renders; proofs/OneRecord.antt has the theorem of the same name. Read first
 -- AcceptedExactly, EqualSameBytes and WritesJustThat.
-use mathlib.Core.Logic.{_↔_}
+use mathlib.Core.Logic.{_⊎_, _↔_}
 use mathlib.Core.Path.{_≡_}
 use mathlib.Core.List.{List, _++_}
 use Prim.Native.Nat.{ℕ, _≤_, _<_}
@@ -110,6 +110,10 @@ pub record RefusesInOrder (r : Record) (s out : List ℕ) (w : Written) : Type 0
   pub outside : (T (partsInside r (length s)) → ⊥) → w ≡ Written.Refused 20 0
   pub long : T (wellShapedRecord r) → T (partsInside r (length s)) → extensionBytes < length (encodingOf r s) → w ≡ Written.Refused 22 0
   pub narrow : T (wellShapedRecord r) → T (partsInside r (length s)) → length (encodingOf r s) ≤ extensionBytes → length out < length (encodingOf r s) → w ≡ Written.Refused 21 0
+
+-- .. and no other number
+abbrev pub WriteNumbers : Type 0
+WriteNumbers = (r : Record) (s out after : List ℕ) (k p : ℕ) → Writes r s out (Written.Refused k p) after → (p ≡ 0) × ((k ≡ 20) ⊎ ((k ≡ 21) ⊎ (k ≡ 22)))
 
 abbrev pub WriteRefuses : Type 0
 WriteRefuses = (r : Record) (s out after : List ℕ) (w : Written) → Writes r s out w after → RefusesInOrder r s out w

@@ -3,9 +3,9 @@
 //
 // A case is the length of its name (one octet), its name, the length of the extension (two octets, highest first) and
 // the extension.
+use extension_text::list_bytes;
 use libc::STDOUT_FILENO;
 use listing::Listed;
-use reader::Outcome;
 ghost use Prim.Native.Nat.{_<_};
 
 fn wide(x: u8) -> usize
@@ -31,16 +31,6 @@ fn part(s: &[u8], a: usize, e: usize) -> &[u8] {
         &s[a..e]
     } else {
         &s[0..0]
-    }
-}
-
-fn list_bytes(s: &[u8], out: &mut [u8]) -> Listed {
-    let reading = reader::read(s);
-    let said = reading.said;
-    let outcome = reading.outcome;
-    match outcome {
-        Outcome::Accepted(n) => listing::list_record(said, n, s, out),
-        Outcome::Refused(k, place) => listing::list_refusal(k, place, out),
     }
 }
 

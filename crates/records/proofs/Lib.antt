@@ -14,3 +14,4 @@ pub mod Made
 pub mod UpTo
 pub mod Making
 pub mod PartsLie
+pub mod Stated

@@ -14,16 +14,17 @@ use Rattle.schema.specs.Content.{Content, encode, wellShaped}
 use Rattle.schema.specs.Decode.{decodeWith, readWith, read, asOctets}
 use Rattle.schema.specs.Parts.{ContentOctets}
 use Rattle.schema.specs.Count.{countOf}
+use Rattle.schema.specs.Statements.{ReadEncode, ReadSound, EncodeInjective, ReadInjective}
 use Rattle.schema.proofs.Codecs.{decode-back, decode-sound}
 use Rattle.schema.proofs.Shape.{good-shaped, good-octets, shaped-good}
 use Rattle.schema.proofs.Count.{good-read}
 
 -- A well-shaped content of octets whose encoding is within the limit is read back from it, with its count of elements.
-pub read-encode : (c : Content) → T (wellShaped c) → ContentOctets c → length (encode c) ≤ 8192 → read (encode c) ≡ got (c, countOf c)
+pub read-encode : ReadEncode
 read-encode c t o h = good-read c (shaped-good c t o h) h
 
 -- What is read is well-shaped, its encoding is just the bytes, and the count is that encoding's.
-pub read-sound : (bs : List ℕ) (c : Content) (k : ℕ) → Octets bs → read bs ≡ got (c, k) → T (wellShaped c) × ContentOctets c × (encode c ≡ bs) × (length bs ≤ 8192) × (k ≡ countOf c)
+pub read-sound : ReadSound
 unfolding readWith
 read-sound bs c k o e =
     bind-case _ _ e λ t et e₁.
@@ -43,12 +44,11 @@ accepted-exactly bs o = (
 )
 
 -- Well-shaped contents of octets whose encodings are within the limit are equal exactly when those encodings are.
-pub encode-injective : (c d : Content) → T (wellShaped c) → T (wellShaped d) → ContentOctets c → ContentOctets d → length (encode c) ≤ 8192 → length (encode d) ≤ 8192
-    → (c ≡ d) ↔ (encode c ≡ encode d)
+pub encode-injective : EncodeInjective
 encode-injective c d t u o p h l = (λ e. ap encode e, λ e. got-inj (sym (decode-back c (shaped-good c t o h)) ∙ ap (decodeWith asOctets) e ∙ decode-back d (shaped-good d u p l)))
 
 -- The contents of two accepted byte strings are equal exactly when the bytes are.
-pub read-injective : (xs ys : List ℕ) (c d : Content) (k m : ℕ) → Octets xs → Octets ys → read xs ≡ got (c, k) → read ys ≡ got (d, m) → (c ≡ d) ↔ (xs ≡ ys)
+pub read-injective : ReadInjective
 read-injective xs ys c d k m o p e f = (
   λ q. sym (read-sound xs c k o e .2) ∙ ap encode q ∙ read-sound ys d m p f .2,
   λ q. ap (λ (x : Content × ℕ). x .0) (got-inj (sym e ∙ ap read q ∙ f)),

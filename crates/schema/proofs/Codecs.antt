@@ -20,7 +20,8 @@ use Rattle.codec.specs.Integer.{integerOf, integerElement}
 use Rattle.codec.specs.Element.{tagged, exactly, chainOctets, chainGood}
 use Rattle.codec.proofs.Shortest.{bits-le, length-integerOctets}
 use Rattle.codec.proofs.Octets.{same-taken}
-use Rattle.codec.proofs.Codec.{Whole, Front, Inside, regood}
+use Rattle.codec.specs.Codec.{Whole, Front, Inside}
+use Rattle.codec.proofs.Codec.{regood}
 use Rattle.codec.proofs.Header.{same-identifier}
 use Rattle.codec.proofs.Element.{element-long, element-laws, tagged-laws, exactly-laws, both-laws, under-laws}
 use Rattle.codec.proofs.Integer.{integer-laws}

@@ -20,6 +20,7 @@ use Rattle.schema.specs.Table.{Kind, set, number32, number64, null, octe
 use Rattle.schema.specs.Content.{RootWith, ValueWith, num, nul, oct, nums, trust, FieldWith, field, Content, ContentWith, Place, placeAt, Places, octetsIn, mapHash, mapValue, mapField, mapContent, hashGood, valueGood, rowGood, fieldGood, afterField, listGood, wellShaped}
 use Rattle.schema.specs.Parts.{HashIs, ValueIs, FieldsAre, EachPart}
 use Rattle.schema.specs.Decode.{readInteger, readEnumerated, readBoolean, readNull, readSet, readVersion, readOctets, readHash, RootParts, rootFrom, rootParts, readRoot, readValue, rowContent, fieldContent, readField, readList, Eight, eightFrom, readEight, decodeWith, readWith, asOctets, asPlace, read, readPlaces}
+use Rattle.schema.specs.Statements.{PlacesInside, PlacesShaped}
 use Rattle.schema.proofs.Codecs.{readInteger-laws, readEnumerated-laws, readOctets-laws, readBoolean-laws, readVersion-laws, readField-laws, readList-laws, level-small}
 use Rattle.schema.proofs.Accepted.{read-sound}
 use Rattle.schema.proofs.Places.{octets-follow, field-follow, list-follow, octets-at-places}
@@ -113,16 +114,18 @@ module _ (s : List ℕ) where
       both-keeps s Lies _ _ _ octets-onward octets-keep λ u.
       both-keeps s (FieldsAre Lies) (FieldsAre Lies) _ _ (onward s (map (mapField (octetsIn s))) (readList asPlace v) (readList asOctets v) (readList-laws v) (list-follow s v)) (list-keep v) λ w. list-keep v
 
-  -- each octet part that is read lies in the bytes
-  pub places-inside : (c : Places) (n : ℕ) → Octets s → readPlaces s ≡ got (c, n) → EachPart Lies c
+  lie : (c : Places) (n : ℕ) → Octets s → readPlaces s ≡ got (c, n) → EachPart Lies c
   unfolding readWith decodeWith
-  places-inside c n o e =
+  lie c n o e =
       bind-case _ _ e λ t et e₁.
       bind-case _ _ e₁ λ d ed e₂.
       bind-case _ _ ed λ y ey e₃.
       let k = exactly-keeps s EightLie spareBytes _ (tagged-keeps s EightLie wrongElement (identifier 1 16) _ (exactly-keeps s EightLie wrongElement (readEight asPlace) eight-keep)) 0 0 s y (at-all s o) ey in
       let q : d ≡ c = ap (λ (x : Places × ℕ). x .0) (got-inj e₂) in
       rw (← q, ← got-inj e₃) (k .1 .1 .1 .1 .0, k .1 .1 .1 .1 .1 .0, k .1 .1 .1 .1 .1 .1 .0, k .1 .1 .1 .1 .1 .1 .1)
+
+pub places-inside : PlacesInside
+places-inside s c n o e = lie s c n o e
 
 -- ---- shape
 
@@ -156,7 +159,6 @@ module _ {O P : Type 0} (f : O → P) where
   unfolding wellShaped listGood
   shape-map c = rw (fields-map (c .version) 0 (c .software), fields-map (c .version) 0 (c .hardware)) refl
 
--- what is read as places is well-shaped
-pub places-shaped : (s : List ℕ) (c : Places) (n : ℕ) → Octets s → readPlaces s ≡ got (c, n) → T (wellShaped c)
+pub places-shaped : PlacesShaped
 unfolding mapAnswer
 places-shaped s c n o e = rw (shape-map (octetsIn s) c) at (read-sound s (mapContent (octetsIn s) c) n o (octets-at-places s o ∙ rw e refl) .0)

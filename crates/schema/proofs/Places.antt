@@ -18,6 +18,7 @@ use Rattle.codec.proofs.Follow.{At, at-octets, at-all, Follows, FollowsIn, guar
 use Rattle.schema.specs.Table.{Kind, set, number32, number64, null, octets, root, Row, rows, heldIn, find, levelTop, hashed, top32, top64}
 use Rattle.schema.specs.Content.{RootWith, ValueWith, num, nul, oct, nums, trust, FieldWith, Field, field, ContentWith, Content, Place, Places, octetsIn, mapHash, mapRoot, mapValue, mapField, mapContent, afterField}
 use Rattle.schema.specs.Decode.{readInteger, readEnumerated, readBoolean, readNull, readSet, readVersion, readOctets, readHash, RootParts, rootFrom, rootParts, readRoot, readValue, rowContent, fieldContent, readField, readList, Eight, eightFrom, readEight, decodeWith, readWith, asOctets, asPlace, read, readPlaces}
+use Rattle.schema.specs.Statements.{OctetsAtPlaces}
 use Rattle.schema.proofs.Codecs.{readInteger-laws, readEnumerated-laws, readOctets-laws, readBoolean-laws, readVersion-laws, readField-laws, readList-laws, level-small}
 
 module _ (s : List ℕ) where
@@ -120,7 +121,6 @@ module _ (s : List ℕ) where
   counted-moved (got t) (refused k q) = refl
   counted-moved (refused k q) N = refl
 
-  -- the octets are those at the places
-  pub octets-at-places : Octets s → read s ≡ mapAnswer (λ (w : Places × ℕ). (mapContent (octetsIn s) (w .0), w .1)) (readPlaces s)
-  unfolding readWith
-  octets-at-places o = rw (decode-follow o) (counted-moved (firstPass 8192 8 512 s) (decodeWith asPlace s))
+pub octets-at-places : OctetsAtPlaces
+unfolding readWith
+octets-at-places s o = rw (decode-follow s o) (counted-moved s (firstPass 8192 8 512 s) (decodeWith asPlace s))

@@ -15,10 +15,11 @@ use Rattle.codec.specs.Octets.{Octets, Taken, taken}
 use Rattle.codec.specs.Header.{Identifier, identifier, holds}
 use Rattle.codec.specs.Integer.{integerOf}
 use Rattle.codec.specs.Element.{tagged, exactly}
-use Rattle.codec.specs.Tree.{Node, node, none, and, nodes, firstPass, octetsOf, runOctets, Each}
-use Rattle.codec.proofs.Tree.{Within, first-pass-sound}
+use Rattle.codec.specs.Tree.{Node, node, none, and, nodes, firstPass, octetsOf, runOctets, Each, Within}
+use Rattle.codec.proofs.Tree.{first-pass-sound}
 use Rattle.codec.proofs.Ranges.{Run, InRange, Ranged, Shortens, RangedIn, held, element-alone, element-ranged, element-shortens, tagged-ranged, tagged-shortens, exactly-ranged, both-ranged, under-ranged, chain-ranged}
 use Rattle.codec.proofs.Refusals.{first-pass-refuses}
+use Rattle.schema.specs.Statements.{ReadRefuses, AfterFirstPass}
 use Rattle.schema.specs.Table.{Kind, set, number32, number64, null, octets, root, Row, rows, heldIn, find, levelTop, hashed, top32, top64}
 use Rattle.schema.specs.Content.{num, nul, oct, nums, trust, FieldWith, afterMember, afterField}
 use Rattle.schema.specs.Decode.{readInteger, readEnumerated, booleanOf, readBoolean, nullOf, readNull, readMember, readSet, readVersion, readOctets, readHash, rootFrom, rootParts, readRoot, readValue, rowContent, fieldContent, readField, readList, Eight, readEight, eightFrom, decodeWith, readWith}
@@ -204,16 +205,14 @@ module _ {O : Type 0} (keep : ℕ → List ℕ → O) where
         (λ x u y. absurd (not-got (sym (guard-yes (eqb (length (x .rest)) 0) spareBytes (x .next) (got (x .val)) (rw (outer-alone x u) tt)) ∙ y))))
         (λ c d u. absurd (not-got u))
 
-  -- where the first pass accepts, 8 to 14
-  pub after-first-pass : (bs : List ℕ) (t : Node) → Octets bs → firstPass 8192 8 512 bs ≡ got t → (k q : ℕ) → readWith keep bs ≡ refused k q → InRange 8 14 k
-  unfolding readWith
-  after-first-pass bs t o e k q r =
-      bind-refuses _ _ r (λ d. absurd (refused-got (sym d ∙ e)))
-      (λ u d v. bind-refuses _ _ v (λ f. decode-refuses bs t (first-pass-sound 8192 8 512 bs t o e) k q f) (λ c f g. absurd (not-got g)))
+pub after-first-pass : AfterFirstPass
+unfolding readWith
+after-first-pass O keep bs t o e k q r =
+    bind-refuses _ _ r (λ d. absurd (refused-got (sym d ∙ e)))
+    (λ u d v. bind-refuses _ _ v (λ f. decode-refuses keep bs t (first-pass-sound 8192 8 512 bs t o e) k q f) (λ c f g. absurd (not-got g)))
 
-  -- a refused read has a number from 1 to 14
-  pub read-refuses : (bs : List ℕ) → Octets bs → (k q : ℕ) → readWith keep bs ≡ refused k q → InRange 1 14 k
-  unfolding readWith
-  read-refuses bs o k q r =
-      bind-refuses _ _ r (λ d. let n = first-pass-refuses 8192 8 512 bs k q d in (omega arith, omega arith))
-      (λ t d v. let n = after-first-pass bs t o d k q r in (omega arith, omega arith))
+pub read-refuses : ReadRefuses
+unfolding readWith
+read-refuses O keep bs o k q r =
+    bind-refuses _ _ r (λ d. let n = first-pass-refuses 8192 8 512 bs k q d in (omega arith, omega arith))
+    (λ t d v. let n = after-first-pass O keep bs t o d k q r in (omega arith, omega arith))

@@ -12,6 +12,7 @@ use lib.ListN.{length, getD}
 use borrow.Author.Tests.{le-leb, lt-leb, eq-eqb, ne-eqb, eqb-true, eqb-false}
 use Rattle.answer.specs.Answer.{pick}
 use Rattle.answer.proofs.Logic.{by-le, and-left, and-right}
+use Rattle.schema.specs.Statements.{Above}
 use Rattle.schema.specs.Table.{Row, row, null, rows, rowAt, indexOf, find, heldIn}
 
 -- ---- a match's last arm
@@ -134,5 +135,5 @@ some-above i (suc j) h =
     rw e (omega (arith, some-above i j (omega arith), next-above rows (i + suc j) (row 0 null 1 0) rows-ascend (omega arith)))
 
 -- numbers ascend with the rows
-pub above : (i j : ℕ) → i < j → j < 42 → rowAt i .number < rowAt j .number
+pub above : Above
 above i j h l = let e : i + suc (j - suc i) ≡ j = omega arith in subst (λ (k : ℕ). rowAt i .number < rowAt k .number) e (some-above i (j - suc i) (omega arith))

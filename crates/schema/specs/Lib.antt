@@ -4,3 +4,4 @@ pub mod Content
 pub mod Decode
 pub mod Parts
 pub mod Count
+pub mod Statements

@@ -81,7 +81,7 @@ of-read s o = go (read s) refl
   where
     go : (a : Answer (Content × ℕ)) → read s ≡ a → Within readNumber a
     go (got c) e = tt
-    go (refused k q) e = let n = read-refuses asOctets s o k q e in (rw (le-leb k 14 (omega (arith, n))) tt, omega (arith, n))
+    go (refused k q) e = let n = read-refuses (List ℕ) asOctets s o k q e in (rw (le-leb k 14 (omega (arith, n))) tt, omega (arith, n))
 
 pub read-answers : ReadAnswers
 unfolding readInto readNumber

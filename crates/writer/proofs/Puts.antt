@@ -21,8 +21,8 @@ use Rattle.codec.specs.Integer.{integerElement}
 use Rattle.codec.specs.Header.{identifier, identifierOctets, headerOctets, elementOctets}
 use Rattle.codec.specs.Element.{chainOctets}
 use Rattle.codec.proofs.Splice.{splice-nothing, splice-one, splice-splice, length-splice}
-use Rattle.der.specs.Write.{ofWritten, roomFor, headerWritten}
-use Rattle.der.specs.declared.write.Written.{Written}
+use Rattle.der.specs.Write.{ofPut, roomFor, headerPut}
+use Rattle.der.specs.declared.write.Put.{Put}
 use Rattle.schema.specs.declared.Kind.{Kind}
 use Rattle.schema.proofs.Kind as kinds
 use Rattle.schema.specs.declared.Row.{Row}
@@ -56,10 +56,10 @@ joined {old} {mid} {new} {p} {q} {r} {xs} {ys} e f = record {
 
 -- ---- what der's leaves answer, where there is room
 
-module _ (old : List ℕ) (p : ℕ) (w : Written) (new : List ℕ) where
+module _ (old : List ℕ) (p : ℕ) (w : Put) (new : List ℕ) where
   -- an answer that is a value leaves the octets, and its value is the place after them
-  came : (m : Answer ℕ) (xs : List ℕ) (q : ℕ) → ofWritten w ≡ m → new ≡ left m old p xs → (length xs ≤ 8192 → p + length xs ≤ length old → m ≡ got (p + length xs))
-      → w ≡ Written.Next q → Puts old p xs new q
+  came : (m : Answer ℕ) (xs : List ℕ) (q : ℕ) → ofPut w ≡ m → new ≡ left m old p xs → (length xs ≤ 8192 → p + length xs ≤ length old → m ≡ got (p + length xs))
+      → w ≡ Put.Next q → Puts old p xs new q
   came m xs q e f g n = record {
     is = λ few room.
         let k = g few room in
@@ -67,32 +67,32 @@ module _ (old : List ℕ) (p : ℕ) (w : Written) (new : List ℕ) where
   }
 
   -- a refusal is no such answer
-  came-not : (m : Answer ℕ) (xs : List ℕ) (a b q : ℕ) → ofWritten w ≡ m → (length xs ≤ 8192 → p + length xs ≤ length old → m ≡ got (p + length xs)) → w ≡ Written.Refused a b → Puts old p xs new q
+  came-not : (m : Answer ℕ) (xs : List ℕ) (a b q : ℕ) → ofPut w ≡ m → (length xs ≤ 8192 → p + length xs ≤ length old → m ≡ got (p + length xs)) → w ≡ Put.Refused a b → Puts old p xs new q
   came-not m xs a b q e g n = record { is = λ few room. absurd (refused-got (rw n at e ∙ g few room)) }
 
-  module _ (f n z : ℕ) (hf : f < 8) (hn : n < 16384) (e : ofWritten w ≡ headerWritten old p (identifier f n) z) where
-    header-got : z ≤ 8192 → p + length (headerOctets (identifier f n) z) ≤ length old → headerWritten old p (identifier f n) z ≡ got (p + length (headerOctets (identifier f n) z))
-    unfolding headerWritten roomFor guard
+  module _ (f n z : ℕ) (hf : f < 8) (hn : n < 16384) (e : ofPut w ≡ headerPut old p (identifier f n) z) where
+    header-got : z ≤ 8192 → p + length (headerOctets (identifier f n) z) ≤ length old → headerPut old p (identifier f n) z ≡ got (p + length (headerOctets (identifier f n) z))
+    unfolding headerPut roomFor guard
     header-got h room =
         let l : z < 65536 = omega arith in
         rw (lt-ltb f 8 hf, lt-ltb n 16384 hn, lt-ltb z 65536 l, le-leb _ _ room) refl
 
-    pub header-put : (q : ℕ) → new ≡ left (headerWritten old p (identifier f n) z) old p (headerOctets (identifier f n) z) → w ≡ Written.Next q
+    pub header-put : (q : ℕ) → new ≡ left (headerPut old p (identifier f n) z) old p (headerOctets (identifier f n) z) → w ≡ Put.Next q
         → z ≤ 8192 → Puts old p (headerOctets (identifier f n) z) new q
     header-put q g k h = came _ _ q e g (λ few room. header-got h room) k
 
-    pub header-not : (a b q : ℕ) → w ≡ Written.Refused a b → z ≤ 8192 → Puts old p (headerOctets (identifier f n) z) new q
+    pub header-not : (a b q : ℕ) → w ≡ Put.Refused a b → z ≤ 8192 → Puts old p (headerOctets (identifier f n) z) new q
     header-not a b q k h = came-not _ _ a b q e (λ few room. header-got h room) k
 
-  module _ (x : ℕ) (e : ofWritten w ≡ roomFor old p (integerElement x)) where
+  module _ (x : ℕ) (e : ofPut w ≡ roomFor old p (integerElement x)) where
     integer-got : p + length (integerElement x) ≤ length old → roomFor old p (integerElement x) ≡ got (p + length (integerElement x))
     unfolding roomFor guard
     integer-got room = rw (le-leb _ _ room) refl
 
-    pub integer-put : (q : ℕ) → new ≡ left (roomFor old p (integerElement x)) old p (integerElement x) → w ≡ Written.Next q → Puts old p (integerElement x) new q
+    pub integer-put : (q : ℕ) → new ≡ left (roomFor old p (integerElement x)) old p (integerElement x) → w ≡ Put.Next q → Puts old p (integerElement x) new q
     integer-put q g k = came _ _ q e g (λ few room. integer-got room) k
 
-    pub integer-not : (a b q : ℕ) → w ≡ Written.Refused a b → Puts old p (integerElement x) new q
+    pub integer-not : (a b q : ℕ) → w ≡ Put.Refused a b → Puts old p (integerElement x) new q
     integer-not a b q k = came-not _ _ a b q e (λ few room. integer-got room) k
 
 -- ---- an ENUMERATED is an INTEGER with another identifier

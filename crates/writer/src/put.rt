@@ -7,7 +7,7 @@ use crate::size::root_content_size;
 use crate::size::root_size;
 use crate::size::set_size;
 use der::write;
-use der::write::Written;
+use der::write::Put;
 use records::FieldList;
 use records::NumberSet;
 use records::Part;
@@ -38,8 +38,8 @@ fn put_header(out: &mut [u8], at: usize, form: u8, number: usize, size: usize) -
     ensures { λ r. ⌜ (size ≤ extensionBytes → Puts (now (out .entry)) at (headerOctets (identifier form number) size) (now (out .exit)) r) ⌝ }
 {
     match write::put_header(out, at, form, number, size) {
-        Written::Next(next) => next,
-        Written::Refused(_, _) => at,
+        Put::Next(next) => next,
+        Put::Refused(_, _) => at,
     }
 }
 
@@ -47,8 +47,8 @@ fn put_integer(out: &mut [u8], at: usize, x: u64) -> usize
     ensures { λ r. ⌜ Puts (now (out .entry)) at (integerElement x) (now (out .exit)) r ⌝ }
 {
     match write::put_integer(out, at, x) {
-        Written::Next(next) => next,
-        Written::Refused(_, _) => at,
+        Put::Next(next) => next,
+        Put::Refused(_, _) => at,
     }
 }
 

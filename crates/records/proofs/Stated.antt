@@ -1,0 +1,35 @@
+-- The theorems of specs/Statements.antt, each from the laws of its file. Assumes nothing.
+use Rattle.schema.specs.Content.{placeAt}
+use Rattle.records.specs.Statements.{EqualContents, ShapedSays, SaysShaped, PlacesRead, MadeSays, PartsLie, AskedPlace, AskedAbsent}
+use Rattle.records.proofs.Equal.{equal-content, content-equal}
+use Rattle.records.proofs.ShapedContent.{shaped-content}
+use Rattle.records.proofs.ContentShaped.{content-shaped}
+use Rattle.records.proofs.PlacesRead as read
+use Rattle.records.proofs.Making as making
+use Rattle.records.proofs.PartsLie as lie
+use Rattle.records.proofs.OctetFields.{asked-content}
+use Rattle.records.proofs.OctetFields as octet
+
+pub equal-contents : EqualContents
+equal-contents r s r′ s′ = (equal-content r s r′ s′, content-equal r s r′ s′)
+
+pub shaped-says : ShapedSays
+shaped-says r t = shaped-content r placeAt t
+
+pub says-shaped : SaysShaped
+says-shaped r i j t = content-shaped r placeAt i j t
+
+pub places-read : PlacesRead
+places-read = read.places-read
+
+pub made-says : MadeSays
+made-says = making.made-says
+
+pub parts-lie : PartsLie
+parts-lie = lie.parts-lie
+
+pub asked-place : AskedPlace
+asked-place r hardware number len a z e = asked-content r hardware number placeAt len a z e
+
+pub asked-absent : AskedAbsent
+asked-absent r hardware number len a z e = octet.asked-absent r hardware number placeAt len (placeAt a z) e
