@@ -1,4 +1,3 @@
-pub mod Unpacked
 pub mod Calls
 pub mod ImageRead
 pub mod Numbers

@@ -4,7 +4,7 @@ use mathlib.Core.Bool.{Bool, true, false, not, _&&_, _||_}
 use mathlib.Core.List.{List, [], _∷_}
 use mathlib.Core.Option.{Option}
 use mathlib.Core.Path.{_≡_, refl, sym, subst}
-use Prim.Native.Nat.{ℕ, _+_, _*_, _%_, _<_}
+use Prim.Native.Nat.{ℕ, _+_, _*_, _/_, _%_, _<_, _≤_}
 use native.Mathlib.Omega.{arith}
 use lib.Dec.{T, eqb, leb, ltb, ltb→lt}
 use lib.ListN.{length, getD}
@@ -24,22 +24,22 @@ use Rattle.codec.specs.Octets.{Octets}
 use Rattle.schema.specs.Content.{Content}
 use Rattle.schema.specs.Decode.{asOctets, read}
 use Rattle.schema.proofs.Refusals.{read-refuses}
-use borrow.Author.Tests.{le-leb}
+use borrow.Author.Tests.{le-leb, le-ltb}
 use Rattle.listing.specs.Room.{listed}
 use Rattle.listing.specs.Text.{listing}
 use Rattle.extension_text.specs.Bytes.{room, extensionListed}
 use Rattle.image.specs.Image.{recordIn}
-use Rattle.sculldrip.specs.Packed.{rest, word, packed}
+use Rattle.sculldrip.specs.Packed.{restTop, rest, word, packed}
 use Rattle.sculldrip.specs.Calls.{counted, readInto, writeImage, askImage, asked, requestOf, ruleImage, enrolImage}
-use Rattle.sculldrip.specs.Statements.{oneOf, ReadAnswers, WriteAnswers, OctetsAnswers, ruleNumber, RuleAnswers, enrolNumber, EnrolAnswers, ListAnswers}
+use Rattle.sculldrip.specs.Statements.{Tells, oneOf, RestWhole, readNumber, ReadAnswers, WriteAnswers, OctetsAnswers, ruleNumber, RuleAnswers, enrolNumber, EnrolAnswers, ListAnswers}
 
--- a refusal's number is one of these, all of them bytes
+-- a refusal's number is one of these, all of them bytes and none of them 0
 abbrev Within : {A : Type 0} → (ℕ → Bool) → Answer A → Type 0
 Within may (got a) = Unit {0}
-Within may (refused number place) = T (may number) × (number < 256)
+Within may (refused number place) = T (may number) × ((1 ≤ number) × (number < 256))
 
 module _ (may : ℕ → Bool) where
-  by-guard : {A : Type 0} (b : Bool) (number place : ℕ) (next : Answer A) → T (may number) × (number < 256) → Within may next → Within may (guard b number place next)
+  by-guard : {A : Type 0} (b : Bool) (number place : ℕ) (next : Answer A) → T (may number) × ((1 ≤ number) × (number < 256)) → Within may next → Within may (guard b number place next)
   unfolding guard
   by-guard true number place next h n = n
   by-guard false number place next h n = h
@@ -49,71 +49,62 @@ module _ (may : ℕ → Bool) where
   by-bind (got x) next h n = n x
   by-bind (refused number place) next h n = h
 
-  low : (number n : ℕ) → number < 256 → T (may number) → T (may (word number n % 256))
-  low number n h t =
-      let e : word number n % 256 ≡ number = omega arith in
-      rw e t
+  -- what the number tells
+  by-answer : (a : Answer ℕ) → Within may a → Tells may a (packed a)
+  by-answer (got n) h = (omega arith, omega arith)
+  by-answer (refused number place) h = let g = h .1 in (h .0, g .0, omega arith, omega arith)
 
-  -- the low byte of an answer is 0 or such a number
-  by-answer : (a : Answer ℕ) → T (may 0) → Within may a → T (may (packed a % 256))
-  by-answer (got n) z h = low 0 n (omega arith) z
-  by-answer (refused number place) z h = low number place (h .1) (h .0)
-
-  by-count : {A : Type 0} (count : A → ℕ) (a : Answer A) → T (may 0) → Within may a → T (may (packed (counted count a) % 256))
-  by-count count (got x) z h = by-answer (got (count x)) z tt
-  by-count count (refused number place) z h = by-answer (refused number place) z h
+  by-count : {A : Type 0} (count : A → ℕ) (a : Answer A) → Within may a → Tells may (counted count a) (packed (counted count a))
+  by-count count (got x) h = by-answer (got (count x)) tt
+  by-count count (refused number place) h = by-answer (refused number place) h
 
   from-image : (image : List ℕ) → T (may 20) → T (may 200) → Within may (recordIn image)
   unfolding recordIn
-  from-image image t u = by-guard _ 200 0 _ (u, omega arith) (by-guard _ 20 0 _ (t, omega arith) tt)
+  from-image image t u = by-guard _ 200 0 _ (u, (omega arith, omega arith)) (by-guard _ 20 0 _ (t, (omega arith, omega arith)) tt)
 
   of-image : {A : Type 0} (image : List ℕ) (next : Record → Answer A) → T (may 20) → T (may 200) → ((r : Record) → Within may (next r)) → Within may (bind (recordIn image) next)
   of-image image next t u n = by-bind (recordIn image) next (from-image image t u) n
 
 -- ---- a read: from 1 to 14, as the schema's law has it
 
-readNumber : ℕ → Bool
-readNumber n = leb n 14 || eqb n 200
-
 of-read : (s : List ℕ) → Octets s → Within readNumber (read s)
-unfolding readNumber
 of-read s o = go (read s) refl
   where
     go : (a : Answer (Content × ℕ)) → read s ≡ a → Within readNumber a
     go (got c) e = tt
-    go (refused k q) e = let n = read-refuses (List ℕ) asOctets s o k q e in (rw (le-leb k 14 (omega (arith, n))) tt, omega (arith, n))
+    go (refused k q) e = let n = read-refuses (List ℕ) asOctets s o k q e in (rw (le-leb k 14 (omega (arith, n))) tt, (n .0, omega (arith, n)))
 
 pub read-answers : ReadAnswers
-unfolding readInto readNumber
+unfolding readInto
 read-answers s image o =
-    by-count readNumber (λ c. c .1) (readInto s image) tt (by-guard readNumber (leb 410 (length image)) 200 0 (read s) (tt, omega arith) (of-read s o))
+    by-count readNumber (λ c. c .1) (readInto s image) (by-guard readNumber (leb 410 (length image)) 200 0 (read s) (tt, (omega arith, omega arith)) (of-read s o))
 
 -- ---- a write and an octet field
 
 pub write-answers : WriteAnswers
 unfolding writeImage written
 write-answers image s out =
-    let may = oneOf (0 ∷ 20 ∷ 21 ∷ 22 ∷ 200 ∷ []) in
-    by-answer may (writeImage image s out) tt
+    let may = oneOf (20 ∷ 21 ∷ 22 ∷ 200 ∷ []) in
+    by-answer may (writeImage image s out)
     (of-image may image (λ r. written r s out) tt tt
-    (λ r. by-guard may _ 20 0 _ (tt, omega arith) (by-guard may _ 22 0 _ (tt, omega arith) (by-guard may _ 21 0 _ (tt, omega arith) tt))))
+    (λ r. by-guard may _ 20 0 _ (tt, (omega arith, omega arith)) (by-guard may _ 22 0 _ (tt, (omega arith, omega arith)) (by-guard may _ 21 0 _ (tt, (omega arith, omega arith)) tt))))
 
-of-kind : (k : Kind) (present : Bool) (start size len : ℕ) → Within (oneOf (0 ∷ 20 ∷ 200 ∷ [])) (askedOf k present start size len)
+of-kind : (k : Kind) (present : Bool) (start size len : ℕ) → Within (oneOf (20 ∷ 200 ∷ [])) (askedOf k present start size len)
 unfolding askedOf pick
 of-kind set present start size len = tt
 of-kind number32 present start size len = tt
 of-kind number64 present start size len = tt
 of-kind null present start size len = tt
-of-kind octets true start size len = by-guard (oneOf (0 ∷ 20 ∷ 200 ∷ [])) (inside start size len) 20 0 _ (tt, omega arith) tt
+of-kind octets true start size len = by-guard (oneOf (20 ∷ 200 ∷ [])) (inside start size len) 20 0 _ (tt, (omega arith, omega arith)) tt
 of-kind octets false start size len = tt
 of-kind root present start size len = tt
 
 pub octets-answers : OctetsAnswers
 unfolding askImage askedOctets askedAt
 octets-answers image hardware number len part =
-    let may = oneOf (0 ∷ 20 ∷ 200 ∷ []) in
-    by-count may asked (askImage image hardware number len part) tt
-    (by-guard may (leb 2 (length part)) 200 0 _ (tt, omega arith)
+    let may = oneOf (20 ∷ 200 ∷ []) in
+    by-count may asked (askImage image hardware number len part)
+    (by-guard may (leb 2 (length part)) 200 0 _ (tt, (omega arith, omega arith))
     (of-image may image (λ r. askedOctets r (not (eqb hardware 0)) number len) tt tt
     (λ r. of-kind (rowAt (indexOf rows number) .kind) (getD (listOf r (not (eqb hardware 0)) .present) (indexOf rows number) false) _ _ len)))
 
@@ -121,41 +112,40 @@ octets-answers image hardware number len part =
 
 numbersIn : List Check → Bool
 numbersIn [] = true
-numbersIn (c ∷ cs) = ruleNumber (c .0) && (ltb (c .0) 256 && numbersIn cs)
+numbersIn (c ∷ cs) = ruleNumber (c .0) && (ltb 0 (c .0) && (ltb (c .0) 256 && numbersIn cs))
 
-first-in : (cs : List Check) → T (numbersIn cs) → T (ruleNumber (firstRefusing cs)) × (firstRefusing cs < 256)
-unfolding numbersIn firstRefusing
-first-in [] t = (tt, omega arith)
-first-in (c ∷ cs) t =
-    let n = and-right (ruleNumber (c .0)) (ltb (c .0) 256 && numbersIn cs) t in
-    go (c .1) (and-left (ruleNumber (c .0)) (ltb (c .0) 256 && numbersIn cs) t, ltb→lt (c .0) 256 (and-left (ltb (c .0) 256) (numbersIn cs) n)) (first-in cs (and-right (ltb (c .0) 256) (numbersIn cs) n))
+-- where the first that refuses is none, it is 0
+first-in : {A : Type 0} (a : A) (cs : List Check) → T (numbersIn cs) → Within ruleNumber (unless (firstRefusing cs) a)
+unfolding numbersIn firstRefusing unless
+first-in a [] t = unfold pick in tt
+first-in a (c ∷ cs) t =
+    let t₁ = and-right (ruleNumber (c .0)) _ t in
+    let t₂ = and-right (ltb 0 (c .0)) _ t₁ in
+    go (c .1) (and-left (ruleNumber (c .0)) _ t, (ltb→lt 0 (c .0) (and-left (ltb 0 (c .0)) _ t₁), ltb→lt (c .0) 256 (and-left (ltb (c .0) 256) _ t₂))) (first-in a cs (and-right (ltb (c .0) 256) _ t₂))
   where
-    go : (b : Bool) → T (ruleNumber (c .0)) × (c .0 < 256) → T (ruleNumber (firstRefusing cs)) × (firstRefusing cs < 256) → T (ruleNumber (pick b (c .0) (firstRefusing cs))) × (pick b (c .0) (firstRefusing cs) < 256)
-    go true x y = unfold pick in x
+    one : T (ruleNumber (c .0)) × ((1 ≤ c .0) × (c .0 < 256)) → (b : Bool) → Within ruleNumber (pick b (got a) (refused (c .0) 0))
+    one x true = unfold pick in tt
+    one x false = unfold pick in x
+
+    go : (b : Bool) → T (ruleNumber (c .0)) × ((1 ≤ c .0) × (c .0 < 256)) → Within ruleNumber (pick (eqb (firstRefusing cs) 0) (got a) (refused (firstRefusing cs) 0))
+        → Within ruleNumber (pick (eqb (pick b (c .0) (firstRefusing cs)) 0) (got a) (refused (pick b (c .0) (firstRefusing cs)) 0))
+    go true x y = unfold pick in one x (eqb (c .0) 0)
     go false x y = unfold pick in y
-
-of-unless : {A : Type 0} (n : ℕ) (a : A) → T (ruleNumber n) × (n < 256) → Within ruleNumber (unless n a)
-unfolding unless
-of-unless n a h = go (eqb n 0)
-  where
-    go : (b : Bool) → Within ruleNumber (pick b (got a) (refused n 0))
-    go true = unfold pick in tt
-    go false = unfold pick in h
 
 of-ruled : (level keymintLevel : ℕ) (s h : Rules) (q : Request) → Within ruleNumber (ruled level keymintLevel s h q)
 unfolding ruled numbersIn shapeChecks dateChecks tokenChecks deviceChecks
-of-ruled level keymintLevel s h q = of-unless (firstRefusing (checks s h q)) _ (first-in (checks s h q) tt)
+of-ruled level keymintLevel s h q = first-in _ (checks s h q) tt
 
 of-ruling : (r : Record) (q : Request) → Within ruleNumber (ruling r q)
 unfolding ruling
-of-ruling r q = by-guard ruleNumber (wellShapedRecord r) 20 0 _ (tt, omega arith) (of-ruled _ _ _ _ q)
+of-ruling r q = by-guard ruleNumber (wellShapedRecord r) 20 0 _ (tt, (omega arith, omega arith)) (of-ruled _ _ _ _ q)
 
 pub rule-answers : RuleAnswers
 unfolding ruleImage
 rule-answers image request permit =
-    by-count ruleNumber (λ p. 0) (ruleImage image request permit) tt
-    (by-guard ruleNumber (leb 16 (length request)) 200 0 _ (tt, omega arith)
-    (by-guard ruleNumber (leb 4 (length permit)) 200 0 _ (tt, omega arith)
+    by-count ruleNumber (λ p. 0) (ruleImage image request permit)
+    (by-guard ruleNumber (leb 16 (length request)) 200 0 _ (tt, (omega arith, omega arith))
+    (by-guard ruleNumber (leb 4 (length permit)) 200 0 _ (tt, (omega arith, omega arith))
     (of-image ruleNumber image (λ r. ruling r (requestOf request)) tt tt (λ r. of-ruling r (requestOf request)))))
 
 -- ---- an enrolment
@@ -163,25 +153,31 @@ rule-answers image request permit =
 of-enrolled : (r : Record) (s expected : List ℕ) → Within enrolNumber (enrolled r s expected)
 unfolding enrolled judged
 of-enrolled r s expected =
-    by-guard enrolNumber _ 20 0 _ (tt, omega arith)
-    (by-guard enrolNumber _ 20 0 _ (tt, omega arith)
-    (by-guard enrolNumber _ 50 0 _ (tt, omega arith)
-    (by-guard enrolNumber _ 51 0 _ (tt, omega arith)
-    (by-guard enrolNumber _ 52 0 _ (tt, omega arith)
-    (by-guard enrolNumber _ 53 0 _ (tt, omega arith)
-    (by-guard enrolNumber _ 54 0 _ (tt, omega arith)
-    (by-guard enrolNumber _ 55 0 _ (tt, omega arith) tt)))))))
+    by-guard enrolNumber _ 20 0 _ (tt, (omega arith, omega arith))
+    (by-guard enrolNumber _ 20 0 _ (tt, (omega arith, omega arith))
+    (by-guard enrolNumber _ 50 0 _ (tt, (omega arith, omega arith))
+    (by-guard enrolNumber _ 51 0 _ (tt, (omega arith, omega arith))
+    (by-guard enrolNumber _ 52 0 _ (tt, (omega arith, omega arith))
+    (by-guard enrolNumber _ 53 0 _ (tt, (omega arith, omega arith))
+    (by-guard enrolNumber _ 54 0 _ (tt, (omega arith, omega arith))
+    (by-guard enrolNumber _ 55 0 _ (tt, (omega arith, omega arith)) tt)))))))
 
 pub enrol-answers : EnrolAnswers
 unfolding enrolImage
 enrol-answers image s expected =
-    by-count enrolNumber (λ u. 0) (enrolImage image s expected) tt (of-image enrolNumber image (λ r. enrolled r s expected) tt tt (λ r. of-enrolled r s expected))
+    by-count enrolNumber (λ u. 0) (enrolImage image s expected) (of-image enrolNumber image (λ r. enrolled r s expected) tt tt (λ r. of-enrolled r s expected))
 
 -- ---- a listing
 
-of-listed : (room : ℕ) (out text : List ℕ) → Within (oneOf (0 ∷ 21 ∷ [])) (listed room out text)
+of-listed : (room : ℕ) (out text : List ℕ) → Within (oneOf (21 ∷ [])) (listed room out text)
 unfolding listed
-of-listed room out text = by-guard (oneOf (0 ∷ 21 ∷ [])) (leb room (length out)) 21 0 (got (length text)) (tt, omega arith) tt
+of-listed room out text = by-guard (oneOf (21 ∷ [])) (leb room (length out)) 21 0 (got (length text)) (tt, (omega arith, omega arith)) tt
 
 pub list-answers : ListAnswers
-list-answers s out = by-answer (oneOf (0 ∷ 21 ∷ [])) (extensionListed s out) tt (of-listed (room (read s) (length s)) out (listing (read s)))
+list-answers s out = by-answer (oneOf (21 ∷ [])) (extensionListed s out) (of-listed (room (read s) (length s)) out (listing (read s)))
+
+-- ---- what 56 bits hold is kept whole
+
+pub rest-whole : RestWhole
+unfolding pick
+rest-whole n h = rw (le-ltb restTop n h) refl

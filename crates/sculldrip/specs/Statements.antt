@@ -1,58 +1,77 @@
--- What is proved of the answers of include/sculldrip.h, beyond that they are those of Calls. Read first ReadAnswers and its
--- neighbours: which numbers a caller can meet (proofs/Numbers.antt); then SameWritten and its neighbours: what is not looked
+-- What is proved of the answers of include/sculldrip.h, beyond that they are those of Calls. Read first Tells, ReadAnswers
+-- and its neighbours: what a caller learns from the number, and which refusals can be met (proofs/Numbers.antt); then SameWritten and its neighbours: what is not looked
 -- at does not matter (proofs/Same.antt); then ReadBack: what stands in an image after a read (proofs/ImageRead.antt).
 use mathlib.Core.Path.{_≡_}
 use mathlib.Core.Bool.{Bool, true, false, _&&_, _||_}
 use mathlib.Core.List.{List, [], _∷_}
-use Prim.Native.Nat.{ℕ, _%_, _≤_}
+use Prim.Native.Nat.{ℕ, _/_, _%_, _≤_}
 use lib.Dec.{T, eqb, leb}
 use lib.ListN.{length, drop}
+use Rattle.answer.specs.Answer.{Answer, got, refused}
 use Rattle.codec.specs.Octets.{Octets}
 use Rattle.reader.specs.declared.Outcome.{Outcome}
 use Rattle.reader.specs.Reading.{Reads}
 use Rattle.image.specs.Image.{recordOf, wordsFit}
 use Rattle.image.specs.Agree.{Agree}
-use Rattle.sculldrip.specs.Calls.{ImageOfRead, readAnswer, writeAnswer, writeLeaves, askAnswer, askLeaves, ruleAnswer, ruleLeaves, enrolAnswer, listAnswer}
+use Rattle.extension_text.specs.Bytes.{extensionListed}
+use Rattle.sculldrip.specs.Packed.{restTop, rest}
+use Rattle.sculldrip.specs.Calls.{ImageOfRead, counted, readInto, readAnswer, writeImage, writeAnswer, writeLeaves, asked, askImage, askAnswer, askLeaves, ruleImage, ruleAnswer, ruleLeaves, enrolImage, enrolAnswer, listAnswer}
 
--- "Its low byte is 0 where the function did what it is for .. else the low byte is the refusal's number"
+-- "Its low byte is 0 where the function did what it is for, and then the rest (answer >> 8) is a count or a length; else the
+-- low byte is the refusal's number .. and the rest is the byte place"
 abbrev pub lowByte : ℕ → ℕ
 lowByte answer = answer % 256
+
+abbrev pub restOf : ℕ → ℕ
+restOf answer = answer / 256
+
+-- the number tells what was answered: 0, which no refusal has, or a refusal that may be met there
+abbrev pub Tells : (ℕ → Bool) → Answer ℕ → ℕ → Type 0
+Tells may (got n) answer = (lowByte answer ≡ 0) × (restOf answer ≡ rest n)
+Tells may (refused number place) answer = T (may number) × (1 ≤ number) × (lowByte answer ≡ number) × (restOf answer ≡ rest place)
 
 abbrev pub oneOf : List ℕ → ℕ → Bool
 oneOf [] n = false
 oneOf (k ∷ ks) n = eqb n k || oneOf ks n
 
+-- a count, length or place of a buffer stands there whole: no buffer comes near the 2^56 that the rest can hold
+abbrev pub RestWhole : Type 0
+RestWhole = (n : ℕ) → n ≤ restTop → rest n ≡ n
+
 -- "Refusals 1 to 14, and 200"
+abbrev pub readNumber : ℕ → Bool
+readNumber n = leb n 14 || eqb n 200
+
 abbrev pub ReadAnswers : Type 0
-ReadAnswers = (s image : List ℕ) → Octets s → T (leb (lowByte (readAnswer s image)) 14 || eqb (lowByte (readAnswer s image)) 200)
+ReadAnswers = (s image : List ℕ) → Octets s → Tells readNumber (counted (λ c. c .1) (readInto s image)) (readAnswer s image)
 
 -- "Refusals 20, 22 and 21 in that order, and 200"
 abbrev pub WriteAnswers : Type 0
-WriteAnswers = (image s out : List ℕ) → T (oneOf (0 ∷ 20 ∷ 21 ∷ 22 ∷ 200 ∷ []) (lowByte (writeAnswer image s out)))
+WriteAnswers = (image s out : List ℕ) → Tells (oneOf (20 ∷ 21 ∷ 22 ∷ 200 ∷ [])) (writeImage image s out) (writeAnswer image s out)
 
 -- "Refusals 20 and 200"
 abbrev pub OctetsAnswers : Type 0
 OctetsAnswers =
     (image : List ℕ) (hardware number len : ℕ) (part : List ℕ)
-    → T (oneOf (0 ∷ 20 ∷ 200 ∷ []) (lowByte (askAnswer image hardware number len part)))
+    → Tells (oneOf (20 ∷ 200 ∷ [])) (counted asked (askImage image hardware number len part)) (askAnswer image hardware number len part)
 
 -- "Refusals 20 and 30 to 46, and 200"
 abbrev pub ruleNumber : ℕ → Bool
-ruleNumber n = oneOf (0 ∷ 20 ∷ 200 ∷ []) n || (leb 30 n && leb n 46)
+ruleNumber n = oneOf (20 ∷ 200 ∷ []) n || (leb 30 n && leb n 46)
 
 abbrev pub RuleAnswers : Type 0
-RuleAnswers = (image request permit : List ℕ) → T (ruleNumber (lowByte (ruleAnswer image request permit)))
+RuleAnswers = (image request permit : List ℕ) → Tells ruleNumber (counted (λ p. 0) (ruleImage image request permit)) (ruleAnswer image request permit)
 
 -- "Refusals 20 and 50 to 55, and 200"
 abbrev pub enrolNumber : ℕ → Bool
-enrolNumber n = oneOf (0 ∷ 20 ∷ 200 ∷ []) n || (leb 50 n && leb n 55)
+enrolNumber n = oneOf (20 ∷ 200 ∷ []) n || (leb 50 n && leb n 55)
 
 abbrev pub EnrolAnswers : Type 0
-EnrolAnswers = (image s expected : List ℕ) → T (enrolNumber (lowByte (enrolAnswer image s expected)))
+EnrolAnswers = (image s expected : List ℕ) → Tells enrolNumber (counted (λ u. 0) (enrolImage image s expected)) (enrolAnswer image s expected)
 
 -- ".. or the answer is 21"
 abbrev pub ListAnswers : Type 0
-ListAnswers = (s out : List ℕ) → T (oneOf (0 ∷ 21 ∷ []) (lowByte (listAnswer s out)))
+ListAnswers = (s out : List ℕ) → Tells (oneOf (21 ∷ [])) (extensionListed s out) (listAnswer s out)
 
 -- ---- "an absent field's words are never looked at, nor are slots past a count"
 
