@@ -24,7 +24,7 @@ use Rattle.records.specs.declared.FieldList.{FieldList}
 use Rattle.records.specs.declared.Record.{Record}
 use Rattle.records.specs.declared.octets.Asked.{Asked}
 use Rattle.records.specs.Parts.{inside}
-use Rattle.records.specs.Asked.{listOf, askedOf, askedAt, askedOctets, partAsked, octetFieldOf, ofAsked}
+use Rattle.records.specs.Asked.{listOf, askedOf, askedAt, askedOctets, partAsked, octetFieldOf, startAsked, movedOn, ofAsked}
 use Rattle.records.proofs.octets.Asked as answers
 
 -- ---- the list that is asked
@@ -141,3 +141,19 @@ module _ (s : List ℕ) (r : Record) (hardware : Bool) (number : ℕ) (x : Asked
       go (Asked.At a z) (inr q) = absurd (omega arith)
       go Asked.Absent q = refl
       go (Asked.Refused n p) q = refl
+
+  -- and it begins where the answer says
+  pub asked-start : (a z : ℕ) → x ≡ Asked.At a z → a ≡ startAsked (askedOctets r hardware number (length s))
+  asked-start a z f = rw (← e, f) refl
+
+  pub nothing-start : OneOf (1 ∷ 2 ∷ []) (tagOf answers.the-type x) → 0 ≡ startAsked (askedOctets r hardware number (length s))
+  nothing-start o = rw (← e) (go x o)
+    where
+      go : (y : Asked) → OneOf (1 ∷ 2 ∷ []) (tagOf answers.the-type y) → 0 ≡ startAsked (ofAsked y)
+      go (Asked.At a z) (inl q) = absurd (omega arith)
+      go (Asked.At a z) (inr q) = absurd (omega arith)
+      go Asked.Absent q = refl
+      go (Asked.Refused n p) q = refl
+
+pub moved : (at : ℕ × ℕ) (m n o : ℕ) → m ≡ n → o ≡ at .1 + m → _≡_ {A = ℕ × ℕ} (at .0, o) (movedOn at n)
+moved at m n o e q = rw (q, e) refl

@@ -4,7 +4,7 @@
 use mathlib.Core.Bool.{Bool, false}
 use mathlib.Core.Option.{Option, none, some}
 use mathlib.Core.List.{List, []}
-use Prim.Native.Nat.{ℕ}
+use Prim.Native.Nat.{ℕ, _+_}
 use lib.ListN.{length, getD}
 use Rattle.answer.specs.Answer.{Answer, got, refused, guard, pick}
 use Rattle.answer.specs.Refusal.{illShaped}
@@ -45,6 +45,16 @@ partAsked s (refused number place) = []
 -- "handed back as the very part of the caller's extension that holds it"
 abbrev pub octetFieldOf : List ℕ → Record → Bool → ℕ → List ℕ
 octetFieldOf s r hardware number = partAsked s (askedOctets r hardware number (length s))
+
+-- where that part begins: none begins where s does
+abbrev pub startAsked : Answer (Option (ℕ × ℕ)) → ℕ
+startAsked (got (some p)) = p .0
+startAsked (got none) = 0
+startAsked (refused number place) = 0
+
+-- a place in memory, n octets on
+abbrev pub movedOn : ℕ × ℕ → ℕ → ℕ × ℕ
+movedOn at n = (at .0, at .1 + n)
 
 -- the code's answer in these terms
 abbrev pub ofAsked : Asked → Answer (Option (ℕ × ℕ))

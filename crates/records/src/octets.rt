@@ -8,9 +8,10 @@ use schema::Kind;
 use schema::ROWS;
 ghost use mathlib.Core.Path.{_≡_};
 ghost use mathlib.Core.Bool.{true};
+ghost use lib.ListN.{length};
 ghost use Rattle.schema.specs.Table.{octets, rows, indexOf};
 ghost use Rattle.records.specs.Content.{octetsAt, partOf};
-ghost use Rattle.records.specs.Asked.{listOf, askedOf, askedAt, askedOctets, octetFieldOf, ofAsked};
+ghost use Rattle.records.specs.Asked.{listOf, askedOf, askedAt, askedOctets, octetFieldOf, startAsked, movedOn, ofAsked};
 
 // What asking for an octet field answers: its part's start and length; that there is none; or a refusal with its place.
 pub enum Asked {
@@ -72,7 +73,8 @@ pub fn ask_octets(r: Record, hardware: bool, number: usize, len: usize) -> Asked
 
 // The very octets of s that hold the field; none where it is absent or lies outside s.
 pub fn octet_field(s: &[u8], r: Record, hardware: bool, number: usize) -> &[u8]
-    ensures { λ t. ⌜ now t ≡ octetFieldOf (now (s .entry)) r hardware number ⌝ }
+    ensures octets { λ t. ⌜ now t ≡ octetFieldOf (now (s .entry)) r hardware number ⌝ }
+    ensures place { λ t. ⌜ t .ptr ≡ movedOn (s .entry .ptr) (startAsked (askedOctets r hardware number (length (now (s .entry))))) ⌝ }
 {
     match ask_octets(r, hardware, number, s.len()) {
         Asked::At(start, size) => {

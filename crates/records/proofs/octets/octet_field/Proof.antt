@@ -1,7 +1,7 @@
 -- `records::octets::octet_field` meets its contract: the part that `ask_octets` says, or none. Assumes nothing.
 use native.Mathlib.Omega.{arith}
 use denote.Ref.{now}
-use Rattle.records.proofs.Asking.{asked-inside, asked-part, asked-nothing}
+use Rattle.records.proofs.Asking.{asked-inside, asked-part, asked-nothing, asked-start, nothing-start, moved}
 use borrow.Author.Needs.{needs}
 use Rattle.records.proofs.octets.octet_field.Statement.{statement}
 use Rattle.records.proofs.octets.octet_field.Tie as tie
@@ -46,10 +46,12 @@ returns c =
     let p = c .before .before .before .before .before .before .args in
     let a = c .before .before .before .before .ask-octets in
     let v = c .before .before .start .given .0 in
-    asked-part (now (p .s)) (p .r) (p .hardware) (p .number) (a .result) (a .ensures) (v .0) (v .1 .0) (c .before .before .start .given .1)
+    (asked-part (now (p .s)) (p .r) (p .hardware) (p .number) (a .result) (a .ensures) (v .0) (v .1 .0) (c .before .before .start .given .1), moved (p .s .ptr) (v .0) _ _ (asked-start (now (p .s)) (p .r) (p .hardware) (p .number) (a .result) (a .ensures) (v .0) (v .1 .0) (c .before .before .start .given .1)) (omega arith))
 
 returns-2 : tie.Need-returns-2
-returns-2 c = search asked-nothing
+returns-2 c =
+    let p = c .before .before .before .before .args in
+    (search asked-nothing, moved (p .s .ptr) 0 _ _ (search nothing-start) (omega arith))
 
 pub octet-field-spec : {M : Type 1} → statement M
 octet-field-spec =
