@@ -23,7 +23,7 @@ use Rattle.image.specs.Agree.{Same, SameSet, SameRoot, setPlace, SameVal
 use Rattle.image.specs.Statements.{SameAnswers, NotLookedAt}
 use Rattle.image.proofs.Fits.{list-tests}
 use Rattle.image.proofs.RoundTrip.{slots-few, slots-count}
-use Rattle.image.proofs.Alike.{AlikeSet, AlikeRoot, AlikeValue, AlikeRow, AlikeRecord, pick-agree, record-shaped, record-inside, record-same, record-asked}
+use Rattle.image.proofs.Alike.{AlikeSet, AlikeRoot, AlikeValue, AlikeRow, AlikeRecord, pick-agree, record-shaped, record-inside, record-same}
 
 is-one : (n : ℕ) → isSet n ≡ true → n ≡ 1
 is-one n e = eqb→eq n 1 (rw e tt)
@@ -180,5 +180,4 @@ not-looked-at w w′ a =
       shaped = record-shaped (recordOf w) (recordOf w′) r;
       inside = record-inside (recordOf w) (recordOf w′) r;
       says = record-same (recordOf w) (recordOf w′) r placeAt;
-      asked = record-asked (recordOf w) (recordOf w′) r;
     }

@@ -17,7 +17,6 @@ use Rattle.schema.specs.Content.{ValueWith, num, nul, oct, nums, trust, field}
 use Rattle.records.specs.Rows.{allBelow}
 use Rattle.records.proofs.Rowwise.{all-agree}
 use Rattle.records.proofs.UpTo.{upTo-agree}
-use Rattle.records.proofs.Asking.{no-row}
 use Rattle.records.specs.declared.Part.{Part}
 use Rattle.records.specs.declared.NumberSet.{NumberSet}
 use Rattle.records.specs.declared.RootOfTrust.{RootOfTrust}
@@ -27,7 +26,6 @@ use Rattle.records.specs.Content.{membersOf, rootOf, setAt, valueAt, fieldAt, f
 use Rattle.records.specs.Equal.{presentAt, contentAt}
 use Rattle.records.specs.Shape.{memberShaped, setShaped, rootShaped, valueShaped, rowShaped, listShaped, wellShapedRecord}
 use Rattle.records.specs.Parts.{partInside, rootInside, contentInside, rowInside, listInside, partsInside}
-use Rattle.records.specs.Asked.{askedOf, askedAt, askedOctets}
 
 pub record AlikeSet (g g′ : NumberSet) : Type 0 where
   pub sized : length (g .members) ≡ 16
@@ -139,16 +137,6 @@ module _ (l l′ : FieldList) (n k : ℕ) where
   value-same part octets a = rw (a .0, a .1) refl
   value-same part root a = ap trust (root-same (l .root) (l′ .root) a part)
 
-  value-asked : (len : ℕ) (kind : Kind) (b b′ : Bool) → b ≡ b′ → (b ≡ true → AlikeValue kind l l′ n k)
-      → askedOf kind b (getD (l .values) k 0) (getD (l .sizes) k 0) len ≡ askedOf kind b′ (getD (l′ .values) k 0) (getD (l′ .sizes) k 0) len
-  unfolding askedOf
-  value-asked len set b b′ e a = refl
-  value-asked len number32 b b′ e a = refl
-  value-asked len number64 b b′ e a = refl
-  value-asked len null b b′ e a = refl
-  value-asked len octets b b′ e a = pick-agree b b′ _ _ _ e (λ h. rw (a h .0, a h .1) refl)
-  value-asked len root b b′ e a = refl
-
 -- ---- lists
 
 module _ (l l′ : FieldList) (a : (k : ℕ) → k < 42 → AlikeRow l l′ k) where
@@ -173,15 +161,6 @@ module _ (l l′ : FieldList) (a : (k : ℕ) → k < 42 → AlikeRow l l′ k) w
       (λ k h. pick-agree (presentAt l k) (presentAt l′ k) _ _ [] (a k h .held)
       (λ p. ap (λ (v : ValueWith O). field (rowAt k .number) v ∷ []) (value-same l l′ (rowAt k .number) k part (rowAt k .kind) (a k h .value p))))
 
-  pub list-asked : (number len : ℕ) → askedAt l (indexOf rows number) len ≡ askedAt l′ (indexOf rows number) len
-  list-asked number len =
-      by-le 42 (indexOf rows number)
-      (λ h. sym (no-row l number len (indexOf rows number) refl h) ∙ no-row l′ number len (indexOf rows number) refl h)
-      (λ h. row-asked (indexOf rows number) h len)
-    where
-      row-asked : (k : ℕ) → k < 42 → (len : ℕ) → askedAt l k len ≡ askedAt l′ k len
-      row-asked k h len = unfold askedAt in value-asked l l′ (rowAt k .number) k len (rowAt k .kind) (presentAt l k) (presentAt l′ k) (a k h .held) (a k h .value)
-
 -- ---- records
 
 pub record AlikeRecord (r r′ : Record) : Type 0 where
@@ -204,8 +183,3 @@ module _ (r r′ : Record) (a : AlikeRecord r r′) where
 
   pub record-same : {O : Type 0} (part : ℕ → ℕ → O) → contentWith part r ≡ contentWith part r′
   record-same part = rw (a .attestation, a .keymint, a .challenge, a .unique, list-same (r .software) (r′ .software) (a .software) part, list-same (r .hardware) (r′ .hardware) (a .hardware) part) refl
-
-  pub record-asked : (hardware : Bool) (number len : ℕ) → askedOctets r hardware number len ≡ askedOctets r′ hardware number len
-  unfolding askedOctets pick
-  record-asked true number len = list-asked (r .hardware) (r′ .hardware) (a .hardware) number len
-  record-asked false number len = list-asked (r .software) (r′ .software) (a .software) number len

@@ -9,7 +9,6 @@ use Rattle.records.specs.declared.Record.{Record}
 use Rattle.records.specs.Content.{placesOf}
 use Rattle.records.specs.Shape.{wellShapedRecord}
 use Rattle.records.specs.Parts.{partsInside}
-use Rattle.records.specs.Asked.{askedOctets}
 use Rattle.image.specs.Image.{imageOf, recordOf, wordsFit}
 use Rattle.image.specs.Whole.{Whole}
 use Rattle.image.specs.Agree.{Agree}
@@ -28,7 +27,6 @@ pub record SameAnswers (w w′ : List ℕ) : Type 0 where
   pub shaped : wellShapedRecord (recordOf w) ≡ wellShapedRecord (recordOf w′)
   pub inside : (len : ℕ) → partsInside (recordOf w) len ≡ partsInside (recordOf w′) len
   pub says : placesOf (recordOf w) ≡ placesOf (recordOf w′)
-  pub asked : (hardware : Bool) (number len : ℕ) → askedOctets (recordOf w) hardware number len ≡ askedOctets (recordOf w′) hardware number len
 
 -- what is not looked at does not matter
 abbrev pub NotLookedAt : Type 0

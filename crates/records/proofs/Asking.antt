@@ -16,6 +16,7 @@ use Rattle.answer.specs.Answer.{Answer, got, refused, guard, pick}
 use Rattle.answer.specs.Refusal.{illShaped}
 use Rattle.answer.proofs.Answer.{got-inj, guard-case}
 use Rattle.schema.specs.Table.{Kind, set, number32, number64, null, octets, root, row, rows, rowAt, indexOf}
+use Rattle.schema.specs.Content.{ValueWith, num, nul, oct, nums, trust, Place, placeAt}
 use Rattle.schema.specs.Rows.{ofKind, ofRow}
 use Rattle.schema.specs.declared.Row.{Row}
 use Rattle.schema.specs.declared.Kind as code
@@ -23,8 +24,11 @@ use Rattle.schema.proofs.Kind as kinds
 use Rattle.records.specs.declared.FieldList.{FieldList}
 use Rattle.records.specs.declared.Record.{Record}
 use Rattle.records.specs.declared.octets.Asked.{Asked}
+use Rattle.records.specs.Content.{fieldsOf}
+use Rattle.records.specs.Fields.{fieldValue}
 use Rattle.records.specs.Parts.{inside}
-use Rattle.records.specs.Asked.{listOf, askedOf, askedAt, askedOctets, partAsked, octetFieldOf, startAsked, movedOn, ofAsked}
+use Rattle.records.specs.AskedRow.{askedIn, askedAt}
+use Rattle.records.specs.Asked.{listOf, askedOf, askedOctets, partAsked, octetFieldOf, startAsked, movedOn, ofAsked}
 use Rattle.records.proofs.octets.Asked as answers
 
 -- ---- the list that is asked
@@ -41,18 +45,18 @@ module _ (r : Record) (hardware : Bool) where
 -- ---- a present octet field
 
 module _ (start size len : ℕ) (a : Bool) (e : a ≡ inside start size len) where
-  pub part-outside : not a ≡ true → refused illShaped 0 ≡ askedOf octets true start size len
-  unfolding askedOf guard pick
+  pub part-outside : not a ≡ true → refused illShaped 0 ≡ askedIn octets true start size len
+  unfolding askedIn guard pick
   part-outside n = rw (← e, not-true a n) refl
 
-  pub part-there : not a ≡ false → got (some (start, size)) ≡ askedOf octets true start size len
-  unfolding askedOf guard pick
+  pub part-there : not a ≡ false → got (some (start, size)) ≡ askedIn octets true start size len
+  unfolding askedIn guard pick
   part-there n = rw (← e, not-false a n) refl
 
 -- ---- a row of a list
 
-no-part : (k : Kind) (start size len : ℕ) → got none ≡ askedOf k false start size len
-unfolding askedOf pick
+no-part : (k : Kind) (start size len : ℕ) → got none ≡ askedIn k false start size len
+unfolding askedIn pick
 no-part set start size len = refl
 no-part number32 start size len = refl
 no-part number64 start size len = refl
@@ -60,8 +64,8 @@ no-part null start size len = refl
 no-part octets start size len = refl
 no-part root start size len = refl
 
-other-kind : (k : code.Kind) (p : Bool) (start size len : ℕ) → OneOf (0 ∷ 1 ∷ 2 ∷ 3 ∷ 5 ∷ []) (tagOf kinds.the-type k) → got none ≡ askedOf (ofKind k) p start size len
-unfolding askedOf
+other-kind : (k : code.Kind) (p : Bool) (start size len : ℕ) → OneOf (0 ∷ 1 ∷ 2 ∷ 3 ∷ 5 ∷ []) (tagOf kinds.the-type k) → got none ≡ askedIn (ofKind k) p start size len
+unfolding askedIn
 other-kind code.Kind.Set p start size len o = refl
 other-kind code.Kind.Number32 p start size len o = refl
 other-kind code.Kind.Number64 p start size len o = refl
@@ -75,7 +79,7 @@ other-kind code.Kind.Root p start size len o = refl
 
 module _ (l : FieldList) (number len k : ℕ) (i : k ≡ indexOf rows number) where
   pub no-row : 42 ≤ k → got none ≡ askedAt l (indexOf rows number) len
-  unfolding askedAt askedOf rows
+  unfolding askedAt askedIn rows
   no-row h = rw (← i, List·getD-eq-default rows (row 0 null 1 0) h) refl
 
   pub field-absent : not (getD (l .present) k false) ≡ true → got none ≡ askedAt l (indexOf rows number) len
@@ -88,45 +92,34 @@ module _ (l : FieldList) (number len k : ℕ) (i : k ≡ indexOf rows number) wh
     no-octets o = rw (← i, ← f) (other-kind (r .kind) (getD (l .present) k false) (getD (l .values) k 0) (getD (l .sizes) k 0) len o)
 
     pub its-octets : (a : Answer (Option (ℕ × ℕ))) → not (getD (l .present) k false) ≡ false → r .kind ≡ code.Kind.Octets
-        → a ≡ askedOf octets true (getD (l .values) k 0) (getD (l .sizes) k 0) len → a ≡ askedAt l (indexOf rows number) len
+        → a ≡ askedIn octets true (getD (l .values) k 0) (getD (l .sizes) k 0) len → a ≡ askedAt l (indexOf rows number) len
     unfolding askedAt
     its-octets a n q g = rw (← i, ← f, q, not-false (getD (l .present) k false) n) g
 
 -- ---- back from an answer
 
--- an answer with a part is that of a present octet field, and the part is its own, inside
-pub record Held (k : Kind) (present : Bool) (start size len a z : ℕ) : Type 0 where
-  pub kind : k ≡ octets
-  pub there : present ≡ true
-  pub starts : start ≡ a
-  pub sized : size ≡ z
-  pub ends : a + z ≤ len
-
-none-some : {A : Type 0} {x : A} → _≡_ {A = Option A} none (some x) → ⊥
+none-some : {A : Type 0} {a : A} → none ≡ some a → ⊥
 none-some e = let z : _≡_ {A = ℕ} 0 1 = cc in omega arith
 
-pub asked-held : (k : Kind) (present : Bool) (start size len a z : ℕ) → askedOf k present start size len ≡ got (some (a, z)) → Held k present start size len a z
-unfolding askedOf pick
-asked-held set present start size len a z e = absurd (none-some (got-inj e))
-asked-held number32 present start size len a z e = absurd (none-some (got-inj e))
-asked-held number64 present start size len a z e = absurd (none-some (got-inj e))
-asked-held null present start size len a z e = absurd (none-some (got-inj e))
-asked-held octets true start size len a z e =
-    guard-case (inside start size len) illShaped 0 (got (some (start, size))) e λ t f.
-    let w : _≡_ {A = ℕ × ℕ} (start, size) (a, z) = cc in
-    let p : start ≡ a = ap (λ (x : ℕ × ℕ). x .0) w in
-    let q : size ≡ z = ap (λ (x : ℕ × ℕ). x .1) w in
-    record { kind = refl; there = refl; starts = p; sized = q; ends = omega (arith, leb→le (start + size) len t) }
-asked-held octets false start size len a z e = absurd (none-some (got-inj e))
-asked-held root present start size len a z e = absurd (none-some (got-inj e))
+-- a part that is answered lies inside
+inside-of : (o : Option (ValueWith Place)) (len a z : ℕ) → askedOf o len ≡ got (some (a, z)) → a + z ≤ len
+unfolding askedOf
+inside-of none len a z e = absurd (none-some (got-inj e))
+inside-of (some (num n)) len a z e = absurd (none-some (got-inj e))
+inside-of (some nul) len a z e = absurd (none-some (got-inj e))
+inside-of (some (oct p)) len a z e =
+    guard-case (inside (p .start) (p .len) len) illShaped 0 (got (some (p .start, p .len))) e λ t f.
+    let w : _≡_ {A = ℕ × ℕ} (p .start, p .len) (a, z) = cc in
+    let m : p .start ≡ a = ap (λ (x : ℕ × ℕ). x .0) w in
+    let n : p .len ≡ z = ap (λ (x : ℕ × ℕ). x .1) w in
+    omega (arith, leb→le (p .start + p .len) len t)
+inside-of (some (nums l)) len a z e = absurd (none-some (got-inj e))
+inside-of (some (trust r)) len a z e = absurd (none-some (got-inj e))
 
 module _ (s : List ℕ) (r : Record) (hardware : Bool) (number : ℕ) (x : Asked) (e : ofAsked x ≡ askedOctets r hardware number (length s)) where
   pub asked-inside : (a z : ℕ) → x ≡ Asked.At a z → a + z ≤ length s
-  unfolding askedOctets askedAt
-  asked-inside a z f =
-      let l = listOf r hardware in
-      let k = indexOf rows number in
-      asked-held (rowAt k .kind) (getD (l .present) k false) (getD (l .values) k 0) (getD (l .sizes) k 0) (length s) a z (sym e ∙ ap ofAsked f) .ends
+  unfolding askedOctets
+  asked-inside a z f = inside-of (fieldValue (fieldsOf (listOf r hardware) placeAt) number) (length s) a z (sym e ∙ ap ofAsked f)
 
   pub asked-part : (a z : ℕ) → x ≡ Asked.At a z → take (a + z - a) (drop a s) ≡ octetFieldOf s r hardware number
   asked-part a z f =

@@ -1,14 +1,12 @@
 -- The theorems of specs/Statements.antt, each from the laws of its file. Assumes nothing.
 use Rattle.schema.specs.Content.{placeAt}
-use Rattle.records.specs.Statements.{EqualContents, ShapedSays, SaysShaped, PlacesRead, MadeSays, PartsLie, AskedPlace, AskedAbsent}
+use Rattle.records.specs.Statements.{EqualContents, ShapedSays, SaysShaped, PlacesRead, MadeSays, PartsLie}
 use Rattle.records.proofs.Equal.{equal-content, content-equal}
 use Rattle.records.proofs.ShapedContent.{shaped-content}
 use Rattle.records.proofs.ContentShaped.{content-shaped}
 use Rattle.records.proofs.PlacesRead as read
 use Rattle.records.proofs.Making as making
 use Rattle.records.proofs.PartsLie as lie
-use Rattle.records.proofs.OctetFields.{asked-content}
-use Rattle.records.proofs.OctetFields as octet
 
 pub equal-contents : EqualContents
 equal-contents r s r′ s′ = (equal-content r s r′ s′, content-equal r s r′ s′)
@@ -27,9 +25,3 @@ made-says = making.made-says
 
 pub parts-lie : PartsLie
 parts-lie = lie.parts-lie
-
-pub asked-place : AskedPlace
-asked-place r hardware number len a z e = asked-content r hardware number placeAt len a z e
-
-pub asked-absent : AskedAbsent
-asked-absent r hardware number len a z e = octet.asked-absent r hardware number placeAt len (placeAt a z) e

@@ -1,15 +1,16 @@
 -- Document 01, "KeyDescription": "An octet field, asked for by list and number, is handed back as the very part of the
 -- caller's extension that holds it; asking for an absent one, or for a number that is no octet field, says absent; a part
 -- outside the lent bytes gives 20".
-use mathlib.Core.Bool.{Bool, false}
+use mathlib.Core.Bool.{Bool}
 use mathlib.Core.Option.{Option, none, some}
 use mathlib.Core.List.{List, []}
 use Prim.Native.Nat.{ℕ, _+_}
-use lib.ListN.{length, getD}
+use lib.ListN.{length}
 use Rattle.answer.specs.Answer.{Answer, got, refused, guard, pick}
 use Rattle.answer.specs.Refusal.{illShaped}
-use Rattle.schema.specs.Table.{Kind, set, number32, number64, null, octets, root, rows, rowAt, indexOf}
-use Rattle.records.specs.Content.{octetsAt}
+use Rattle.schema.specs.Content.{ValueWith, num, nul, oct, nums, trust, Place, placeAt}
+use Rattle.records.specs.Content.{octetsAt, fieldsOf}
+use Rattle.records.specs.Fields.{fieldValue}
 use Rattle.records.specs.Parts.{inside}
 use Rattle.records.specs.declared.FieldList.{FieldList}
 use Rattle.records.specs.declared.Record.{Record}
@@ -19,22 +20,18 @@ use Rattle.records.specs.declared.octets.Asked.{Asked}
 abbrev pub listOf : Record → Bool → FieldList
 listOf r hardware = pick hardware (r .hardware) (r .software)
 
--- the start and length of a field of this kind, if it is an octet field and there
-unfoldable pub askedOf : Kind → Bool → ℕ → ℕ → ℕ → Answer (Option (ℕ × ℕ))
-askedOf set present start size len = got none
-askedOf number32 present start size len = got none
-askedOf number64 present start size len = got none
-askedOf null present start size len = got none
-askedOf octets present start size len = pick present (guard (inside start size len) illShaped 0 (got (some (start, size)))) (got none)
-askedOf root present start size len = got none
+-- what is answered of the value that the list says under the number, in len octets: its part, where it is octets
+unfoldable pub askedOf : Option (ValueWith Place) → ℕ → Answer (Option (ℕ × ℕ))
+askedOf none len = got none
+askedOf (some (num n)) len = got none
+askedOf (some nul) len = got none
+askedOf (some (oct p)) len = guard (inside (p .start) (p .len) len) illShaped 0 (got (some (p .start, p .len)))
+askedOf (some (nums l)) len = got none
+askedOf (some (trust r)) len = got none
 
--- the same of a list's row k
-unfoldable pub askedAt : FieldList → ℕ → ℕ → Answer (Option (ℕ × ℕ))
-askedAt l k len = askedOf (rowAt k .kind) (getD (l .present) k false) (getD (l .values) k 0) (getD (l .sizes) k 0) len
-
--- by list, number, kind and presence alone; a number that has no row is of no kind that holds octets
+-- by list and number
 unfoldable pub askedOctets : Record → Bool → ℕ → ℕ → Answer (Option (ℕ × ℕ))
-askedOctets r hardware number len = askedAt (listOf r hardware) (indexOf rows number) len
+askedOctets r hardware number len = askedOf (fieldValue (fieldsOf (listOf r hardware) placeAt) number) len
 
 -- the octets of s that an answer means; none where it means no part
 abbrev pub partAsked : List ℕ → Answer (Option (ℕ × ℕ)) → List ℕ

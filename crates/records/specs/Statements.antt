@@ -1,15 +1,17 @@
--- What is proved of records. Read EqualContents and MadeSays first. proofs/Stated.antt has the theorem of the same name.
+-- What is proved of records. Read EqualContents and MadeSays first. proofs/Stated.antt and
+-- OctetFields.antt have the theorem of the same name.
 use mathlib.Core.Logic.{_↔_}
 use mathlib.Core.Path.{_≡_}
 use mathlib.Core.Bool.{Bool}
 use mathlib.Core.Option.{none, some}
 use mathlib.Core.List.{List}
-use Prim.Native.Nat.{ℕ, _+_, _≤_}
+use Prim.Native.Nat.{ℕ, _+_, _<_, _≤_}
 use lib.ListN.{length}
 use lib.Dec.{T}
-use Rattle.answer.specs.Answer.{got}
+use Rattle.answer.specs.Answer.{got, refused}
+use Rattle.answer.specs.Refusal.{illShaped}
 use Rattle.codec.specs.Octets.{Octets}
-use Rattle.schema.specs.Content.{oct, placeAt, Places, wellShaped}
+use Rattle.schema.specs.Content.{oct, Place, placeAt, Places, wellShaped}
 use Rattle.schema.specs.Parts.{EachPart}
 use Rattle.schema.specs.Decode.{read, readPlaces}
 use Rattle.records.specs.Content.{fieldsOf, contentOf, placesOf}
@@ -45,14 +47,14 @@ MadeSays = (c : Places) → T (wellShaped c) → placesOf (recordMade c) ≡ c
 abbrev pub PartsLie : Type 0
 PartsLie = (n : ℕ) (r : Record) → EachPart (λ p. p .start + p .len ≤ n) (placesOf r) → T (partsInside r n)
 
--- "handed back as the very part .. that holds it": what is answered is the field's place
-abbrev pub AskedPlace : Type 0
-AskedPlace =
-    (r : Record) (hardware : Bool) (number len a z : ℕ) → askedOctets r hardware number len ≡ got (some (a, z))
-    → fieldValue (fieldsOf (listOf r hardware) placeAt) number ≡ some (oct (placeAt a z))
+-- what asking for an octet field answers
+pub record AskedMeans (r : Record) (hardware : Bool) (number len : ℕ) : Type 0 where
+  -- "handed back as the very part .. that holds it": where the list has octets under the number, just their place
+  pub part : (a z : ℕ) → (askedOctets r hardware number len ≡ got (some (a, z))) ↔ (fieldValue (fieldsOf (listOf r hardware) placeAt) number ≡ some (oct (placeAt a z))) × (a + z ≤ len)
+  -- "asking for an absent one, or for a number that is no octet field, says absent"
+  pub absent : (askedOctets r hardware number len ≡ got none) ↔ ((p : Place) → fieldValue (fieldsOf (listOf r hardware) placeAt) number ≡ some (oct p) → ⊥)
+  -- "a part outside the lent bytes gives 20"
+  pub outside : (askedOctets r hardware number len ≡ refused illShaped 0) ↔ ((p : Place) × (fieldValue (fieldsOf (listOf r hardware) placeAt) number ≡ some (oct p)) × (len < p .start + p .len))
 
--- "asking for an absent one, or for a number that is no octet field, says absent": then the list has no such octets
-abbrev pub AskedAbsent : Type 0
-AskedAbsent =
-    (r : Record) (hardware : Bool) (number len a z : ℕ) → askedOctets r hardware number len ≡ got none
-    → fieldValue (fieldsOf (listOf r hardware) placeAt) number ≡ some (oct (placeAt a z)) → ⊥
+abbrev pub AskedExactly : Type 0
+AskedExactly = (r : Record) (hardware : Bool) (number len : ℕ) → AskedMeans r hardware number len

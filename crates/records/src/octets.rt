@@ -11,7 +11,8 @@ ghost use mathlib.Core.Bool.{true};
 ghost use lib.ListN.{length};
 ghost use Rattle.schema.specs.Table.{octets, rows, indexOf};
 ghost use Rattle.records.specs.Content.{octetsAt, partOf};
-ghost use Rattle.records.specs.Asked.{listOf, askedOf, askedAt, askedOctets, octetFieldOf, startAsked, movedOn, ofAsked};
+ghost use Rattle.records.specs.AskedRow.{askedIn, askedAt};
+ghost use Rattle.records.specs.Asked.{listOf, askedOctets, octetFieldOf, startAsked, movedOn, ofAsked};
 
 // What asking for an octet field answers: its part's start and length; that there is none; or a refusal with its place.
 pub enum Asked {
@@ -32,7 +33,7 @@ fn list_of(r: Record, hardware: bool) -> FieldList
 
 // A present octet field at this place.
 fn ask_part(start: usize, size: usize, len: usize) -> Asked
-    ensures { λ a. ⌜ ofAsked a ≡ askedOf octets true start size len ⌝ }
+    ensures { λ a. ⌜ ofAsked a ≡ askedIn octets true start size len ⌝ }
 {
     if !inside(start as u64, size as u64, len) {
         return Asked::Refused(ILL_SHAPED, 0);

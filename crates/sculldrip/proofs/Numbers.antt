@@ -2,18 +2,17 @@
 -- nothing.
 use mathlib.Core.Bool.{Bool, true, false, not, _&&_, _||_}
 use mathlib.Core.List.{List, [], _∷_}
-use mathlib.Core.Option.{Option}
+use mathlib.Core.Option.{Option, none, some}
 use mathlib.Core.Path.{_≡_, refl, sym, subst}
 use Prim.Native.Nat.{ℕ, _+_, _*_, _/_, _%_, _<_, _≤_}
 use native.Mathlib.Omega.{arith}
 use lib.Dec.{T, eqb, leb, ltb, ltb→lt}
-use lib.ListN.{length, getD}
+use lib.ListN.{length}
 use Rattle.answer.specs.Answer.{Answer, got, refused, guard, bind, pick}
 use Rattle.answer.proofs.Logic.{and-left, and-right}
-use Rattle.schema.specs.Table.{Kind, set, number32, number64, null, octets, root, rowAt, rows, indexOf}
 use Rattle.records.specs.declared.Record.{Record}
 use Rattle.records.specs.Parts.{inside}
-use Rattle.records.specs.Asked.{listOf, askedOctets, askedOf, askedAt}
+use Rattle.records.specs.Asked.{listOf, askedOf, askedOctets}
 use Rattle.records.specs.Shape.{wellShapedRecord}
 use Rattle.writer.specs.Written.{written}
 use Rattle.ruling.specs.declared.request.Request.{Request}
@@ -21,7 +20,9 @@ use Rattle.ruling.specs.Rules.{Rules}
 use Rattle.ruling.specs.Ruling.{Check, firstRefusing, shapeChecks, dateChecks, tokenChecks, deviceChecks, checks, unless, ruled, ruling}
 use Rattle.enrolment.specs.Enrolled.{judged, enrolled}
 use Rattle.codec.specs.Octets.{Octets}
-use Rattle.schema.specs.Content.{Content}
+use Rattle.schema.specs.Content.{Content, ValueWith, num, nul, oct, nums, trust, Place, placeAt}
+use Rattle.records.specs.Content.{fieldsOf}
+use Rattle.records.specs.Fields.{fieldValue}
 use Rattle.schema.specs.Decode.{asOctets, read}
 use Rattle.schema.proofs.Refusals.{read-refuses}
 use borrow.Author.Tests.{le-leb, le-ltb}
@@ -89,24 +90,23 @@ write-answers image s out =
     (of-image may image (λ r. written r s out) tt tt
     (λ r. by-guard may _ 20 0 _ (tt, (omega arith, omega arith)) (by-guard may _ 22 0 _ (tt, (omega arith, omega arith)) (by-guard may _ 21 0 _ (tt, (omega arith, omega arith)) tt))))
 
-of-kind : (k : Kind) (present : Bool) (start size len : ℕ) → Within (oneOf (20 ∷ 200 ∷ [])) (askedOf k present start size len)
-unfolding askedOf pick
-of-kind set present start size len = tt
-of-kind number32 present start size len = tt
-of-kind number64 present start size len = tt
-of-kind null present start size len = tt
-of-kind octets true start size len = by-guard (oneOf (20 ∷ 200 ∷ [])) (inside start size len) 20 0 _ (tt, (omega arith, omega arith)) tt
-of-kind octets false start size len = tt
-of-kind root present start size len = tt
+of-value : (o : Option (ValueWith Place)) (len : ℕ) → Within (oneOf (20 ∷ 200 ∷ [])) (askedOf o len)
+unfolding askedOf
+of-value none len = tt
+of-value (some (num n)) len = tt
+of-value (some nul) len = tt
+of-value (some (oct p)) len = by-guard (oneOf (20 ∷ 200 ∷ [])) (inside (p .start) (p .len) len) 20 0 _ (tt, (omega arith, omega arith)) tt
+of-value (some (nums l)) len = tt
+of-value (some (trust r)) len = tt
 
 pub octets-answers : OctetsAnswers
-unfolding askImage askedOctets askedAt
+unfolding askImage askedOctets
 octets-answers image hardware number len part =
     let may = oneOf (20 ∷ 200 ∷ []) in
     by-count may asked (askImage image hardware number len part)
     (by-guard may (leb 2 (length part)) 200 0 _ (tt, (omega arith, omega arith))
     (of-image may image (λ r. askedOctets r (not (eqb hardware 0)) number len) tt tt
-    (λ r. of-kind (rowAt (indexOf rows number) .kind) (getD (listOf r (not (eqb hardware 0)) .present) (indexOf rows number) false) _ _ len)))
+    (λ r. of-value (fieldValue (fieldsOf (listOf r (not (eqb hardware 0))) placeAt) number) len)))
 
 -- ---- a use: the first check that refuses has its own number
 

@@ -8,13 +8,14 @@ use Prim.Native.Nat.{ℕ, _≤_}
 use lib.ListN.{length}
 use lib.Dec.{eqb, leb}
 use borrow.Author.Tests.{le-leb}
-use Rattle.answer.specs.Answer.{Answer, got, refused, guard, bind}
+use Rattle.answer.specs.Answer.{Answer, got, refused, guard, bind, pick}
 use Rattle.answer.specs.Refusal.{illShaped}
 use Rattle.schema.specs.Content.{Content, Places, octetsIn, mapContent, encode}
 use Rattle.records.specs.Content.{contentOf}
 use Rattle.records.proofs.PlacesRead.{content-there}
 use Rattle.records.specs.declared.Record.{Record}
-use Rattle.records.specs.Asked.{askedOctets}
+use Rattle.records.specs.Fields.{fieldValue}
+use Rattle.records.specs.Asked.{askedOf, askedOctets}
 use Rattle.writer.specs.Written.{written, leftBy}
 use Rattle.ruling.specs.declared.request.Request.{Request}
 use Rattle.ruling.specs.Rules.{rulesOf}
@@ -92,6 +93,11 @@ module _ (w w′ : List ℕ) (a : Agree w w′) where
         ap (λ (x : Places). x .hardware) c,
       ) refl
 
+  asked-same : (hardware : Bool) (number len : ℕ) → askedOctets (recordOf w) hardware number len ≡ askedOctets (recordOf w′) hardware number len
+  unfolding askedOctets pick
+  asked-same true number len = ap (λ (x : Places). askedOf (fieldValue (x .hardware) number) len) (not-looked-at w w′ a .says)
+  asked-same false number len = ap (λ (x : Places). askedOf (fieldValue (x .software) number) len) (not-looked-at w w′ a .says)
+
 pub same-written : SameWritten
 unfolding writeImage
 same-written w w′ s out a =
@@ -100,7 +106,7 @@ same-written w w′ s out a =
 pub same-octets : SameOctets
 unfolding askImage
 same-octets w w′ hardware number len part a =
-    let e = ap (λ (x : Answer (Option (ℕ × ℕ))). atLeast 2 part x) (of-same w w′ a (λ r. askedOctets r (not (eqb hardware 0)) number len) (not-looked-at w w′ a .asked (not (eqb hardware 0)) number len)) in
+    let e = ap (λ (x : Answer (Option (ℕ × ℕ))). atLeast 2 part x) (of-same w w′ a (λ r. askedOctets r (not (eqb hardware 0)) number len) (asked-same w w′ a (not (eqb hardware 0)) number len)) in
     (ap (λ (x : Answer (Option (ℕ × ℕ))). packed (counted asked x)) e, ap (λ (x : Answer (Option (ℕ × ℕ))). leaves partWords x part) e)
 
 pub same-ruled : SameRuled

@@ -2,7 +2,9 @@
 use mathlib.Core.Path.{ap, _∙_}
 use Rattle.schema.specs.Table.{rows, indexOf}
 use Rattle.records.specs.declared.FieldList.{FieldList}
-use Rattle.records.specs.Asked.{askedAt, askedOctets}
+use Rattle.records.specs.AskedRow.{askedAt}
+use Rattle.records.specs.Asked.{listOf, askedOctets}
+use Rattle.records.proofs.OctetFields.{asked-by-number}
 use borrow.Author.Needs.{needs}
 use Rattle.records.proofs.octets.ask_octets.Statement.{statement}
 use Rattle.records.proofs.octets.ask_octets.Tie as tie
@@ -15,7 +17,9 @@ ask-list-requires c κs = search needs
 
 returns : tie.Need-returns
 unfolding askedOctets
-returns c = c .ask-list .ensures ∙ ap (λ (l : FieldList). askedAt l (indexOf rows (c .before .before .args .number)) (c .before .before .args .len)) (c .before .list-of .ensures)
+returns c =
+    let a = c .before .before .args in
+    c .ask-list .ensures ∙ ap (λ (l : FieldList). askedAt l (indexOf rows (a .number)) (a .len)) (c .before .list-of .ensures) ∙ asked-by-number (listOf (a .r) (a .hardware)) (a .len) (a .number)
 
 pub ask-octets-spec : {M : Type 1} → statement M
 ask-octets-spec = tie.close (tie.spec list-of-requires ask-list-requires returns)
