@@ -6,6 +6,11 @@ use crate::refusal::Refusal;
 use crate::request::{Permit, Request};
 use crate::sys;
 
+pub(crate) fn version() -> u64 {
+    // SAFETY: nothing is lent.
+    unsafe { sys::sculldrip_version() }
+}
+
 /// The count of elements.
 pub(crate) fn read(bytes: &[u8], image: &mut Image) -> Result<u64, Refusal> {
     let words = image.words.len();
