@@ -1,11 +1,14 @@
 /* Sculldrip: reads, writes and rules on Android key attestation extensions (OID 1.3.6.1.4.1.11129.2.1.17).
  *
- * Every function takes anything and answers: no length, image, request or clock needs to be checked before. What remains to
- * the caller:
+ * Every function of the library takes anything and answers: no length, image, request or clock needs to be checked before.
+ * What remains to the caller:
  *
  *   - each pointer is good for the length beside it; where that is 0 it may be NULL;
  *   - what is lent to be written (image, output, part, permit, text) overlaps nothing else that the same call is lent;
  *   - a thread that calls has SCULLDRIP_STACK_BYTES of stack left.
+ *
+ * The inline functions of this file take no lengths: an image that they are lent has SCULLDRIP_IMAGE_WORDS words, a request
+ * SCULLDRIP_REQUEST_WORDS, and every other pointer is good for what it points to. The words themselves may hold anything.
  *
  * Nothing is kept between calls and nothing is allocated, so any thread may call at any time. What is lent as const is not
  * changed. libsculldrip.a is for Linux on x86-64 alone.
@@ -46,7 +49,8 @@ extern "C" {
 /* The room that is enough for the listing of a refusal. */
 #define SCULLDRIP_REFUSED_LISTING_BYTES 64
 
-/* The stack that is enough for every call. Measured: read and list take 16 KB, write 9, rule 7, octets and enrol 5. */
+/* The stack that is enough for every call. Measured, in KB: read 13, list 15, write 11, rule 12, octets 12, enrol 10; and 3
+ * more in a program's first call, where the linker finds memcpy only then. */
 #define SCULLDRIP_STACK_BYTES 32768
 
 /* The most members of a set. */
@@ -280,10 +284,12 @@ static inline void sculldrip_strict_request(uint64_t *request) {
  *   194       rootOfTrust: key start, key length, locked (1 or 0), boot state, 1 where there is a boot hash else 0,
  *             hash start, hash length
  *
- * An image is that of no record, and is refused with 20 as is a record that is not well-shaped, where a version or a level
- * passes 32 bits or a flag of the first 42 words of a list is neither 0 nor 1; or in a present field a member, the boot state
- * (over 32 bits) or a flag of the root of trust (neither 0 nor 1) is so. Words of absent fields, of an absent boot hash and
- * slots past a set's count may hold anything: they are not looked at. A read leaves 0 in all of them.
+ * An image is that of no record where a version or a level passes 32 bits or a flag of the first 42 words of a list is neither
+ * 0 nor 1; or in a present field a member, the boot state (over 32 bits) or a flag of the root of trust (neither 0 nor 1) is
+ * so. sculldrip_write, rule, enrol and octets refuse it with 20. The first three refuse so a record that is not well-shaped,
+ * too; write and enrol also one with an octet part outside the buffer, and octets one whose asked field lies outside, and no
+ * more. Words of absent fields, of an absent boot hash and slots past a set's count may hold anything: they are not looked at.
+ * A read leaves 0 in all of them.
  */
 enum sculldrip_layout {
     SCULLDRIP_AT_VERSION = 0,
@@ -302,7 +308,8 @@ enum sculldrip_layout {
 /* ---- An image: asking ----
  *
  * A list is SCULLDRIP_SOFTWARE or SCULLDRIP_HARDWARE (any number but 0), a row one of SCULLDRIP_ROW_... What answers an int
- * answers 1 where the list has the field and it is of that kind, and fills *found; else 0, and *found stays as it was. */
+ * answers 1 where the list has the field and it is of that kind, and fills *found; else 0, and *found stays as it was. A word
+ * over 32 bits where a record has 32, which no read leaves, is told as UINT32_MAX. */
 
 enum sculldrip_kind {
     SCULLDRIP_KIND_NONE, /* there is no such row */
@@ -365,15 +372,20 @@ static inline enum sculldrip_kind sculldrip_kind_of(unsigned row) {
     }
 }
 
+/* Not cut: 2^32 is not 0. */
+static inline uint32_t sculldrip_narrow(uint64_t word) { return word < UINT32_MAX ? (uint32_t)word : UINT32_MAX; }
+
 static inline uint32_t sculldrip_attestation_version(const uint64_t *image) {
-    return (uint32_t)image[SCULLDRIP_AT_VERSION];
+    return sculldrip_narrow(image[SCULLDRIP_AT_VERSION]);
 }
-static inline uint32_t sculldrip_attestation_level(const uint64_t *image) { return (uint32_t)image[SCULLDRIP_AT_LEVEL]; }
+static inline uint32_t sculldrip_attestation_level(const uint64_t *image) {
+    return sculldrip_narrow(image[SCULLDRIP_AT_LEVEL]);
+}
 static inline uint32_t sculldrip_keymint_version(const uint64_t *image) {
-    return (uint32_t)image[SCULLDRIP_AT_KEYMINT_VERSION];
+    return sculldrip_narrow(image[SCULLDRIP_AT_KEYMINT_VERSION]);
 }
 static inline uint32_t sculldrip_keymint_level(const uint64_t *image) {
-    return (uint32_t)image[SCULLDRIP_AT_KEYMINT_LEVEL];
+    return sculldrip_narrow(image[SCULLDRIP_AT_KEYMINT_LEVEL]);
 }
 
 static inline struct sculldrip_part sculldrip_part_at(const uint64_t *words) {
@@ -434,13 +446,14 @@ static inline int sculldrip_set_field(const uint64_t *image, unsigned list, unsi
     found->count = slots[SCULLDRIP_SET_MEMBERS] < SCULLDRIP_SET_MEMBERS ? (size_t)slots[SCULLDRIP_SET_MEMBERS]
                                                                          : SCULLDRIP_SET_MEMBERS;
     for (i = 0; i < found->count; i++)
-        found->members[i] = (uint32_t)slots[i];
+        found->members[i] = sculldrip_narrow(slots[i]);
     return 1;
 }
 
+/* Of a set with a larger count the 16 members that it has room for are looked at. */
 static inline int sculldrip_is_member(const struct sculldrip_set *set, uint32_t number) {
     size_t i;
-    for (i = 0; i < set->count; i++)
+    for (i = 0; i < set->count && i < SCULLDRIP_SET_MEMBERS; i++)
         if (set->members[i] == number)
             return 1;
     return 0;
@@ -452,7 +465,7 @@ static inline int sculldrip_root_of_trust(const uint64_t *image, unsigned list, 
         return 0;
     found->key = sculldrip_part_at(words);
     found->is_locked = words[2] == 1;
-    found->state = (uint32_t)words[3];
+    found->state = sculldrip_narrow(words[3]);
     found->has_hash = words[4] == 1;
     found->hash.start = found->has_hash ? words[5] : 0;
     found->hash.length = found->has_hash ? words[6] : 0;

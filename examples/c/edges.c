@@ -1,8 +1,9 @@
-/* edges: what the header says of calls that lend nothing, of a listing's room, of words that are not looked at, of a request
- * that says nothing, and of numbers that have no row, tried. It answers 0 where all of it holds.
+/* edges: what the header says of calls that lend nothing, of a listing's room, of words that are not looked at or that no
+ * record has, of a request that says nothing, and of numbers that have no row, tried. It answers 0 where all of it holds.
  *
  *   gcc -Wall -Wextra -Werror -Iinclude examples/c/edges.c target/staticlib/libsculldrip.a -o target/edges && target/edges */
 #include <stdio.h>
+#include <stdlib.h>
 #include <string.h>
 
 #include "sculldrip.h"
@@ -104,6 +105,71 @@ static void look_away(void) {
     expect("write, an empty set", sculldrip_write(image, SCULLDRIP_IMAGE_WORDS, NULL, 0, output, sizeof output), 0, 26);
 }
 
+/* A word over 32 bits is told as none that a record is well-shaped with, where it would be 0 or 2 if it were cut. */
+static void ask_wide_words(void) {
+    const uint64_t wide = UINT64_C(1) << 32;
+    const uint32_t sign[] = {SCULLDRIP_PURPOSE_SIGN};
+    const size_t hardware = sculldrip_at_list(SCULLDRIP_HARDWARE);
+    uint64_t image[SCULLDRIP_IMAGE_WORDS];
+    uint8_t output[64];
+    struct sculldrip_root root = {{0, 0}, 1, SCULLDRIP_BOOT_FAILED, 0, {0, 0}};
+    struct sculldrip_set set = {0, {0}};
+    sculldrip_clear(image);
+    image[SCULLDRIP_AT_VERSION] = wide + 3;
+    image[SCULLDRIP_AT_LEVEL] = wide;
+    image[SCULLDRIP_AT_KEYMINT_VERSION] = wide + 4;
+    image[SCULLDRIP_AT_KEYMINT_LEVEL] = wide + 2;
+    expect_true("a wide version", sculldrip_attestation_version(image) == UINT32_MAX);
+    expect_true("a wide level", sculldrip_attestation_level(image) == UINT32_MAX);
+    expect_true("a wide KeyMint version", sculldrip_keymint_version(image) == UINT32_MAX);
+    expect_true("a wide KeyMint level", sculldrip_keymint_level(image) == UINT32_MAX);
+    sculldrip_clear(image);
+    sculldrip_put_attestation(image, 2, SCULLDRIP_LEVEL_TRUSTED_ENVIRONMENT);
+    sculldrip_put_root(image, SCULLDRIP_HARDWARE, &root);
+    image[hardware + SCULLDRIP_AT_ROOT + 3] = wide;
+    expect_true("a wide state", sculldrip_root_of_trust(image, SCULLDRIP_HARDWARE, &root) && root.state == UINT32_MAX);
+    expect("write, a wide state", sculldrip_write(image, SCULLDRIP_IMAGE_WORDS, NULL, 0, output, sizeof output),
+           SCULLDRIP_REFUSED_ILL_SHAPED, 0);
+    sculldrip_put_set(image, SCULLDRIP_HARDWARE, SCULLDRIP_ROW_PURPOSE, sign, 1);
+    image[hardware + sculldrip_at_set(SCULLDRIP_ROW_PURPOSE)] = wide + SCULLDRIP_PURPOSE_SIGN;
+    expect_true("a wide member", sculldrip_set_field(image, SCULLDRIP_HARDWARE, SCULLDRIP_ROW_PURPOSE, &set) &&
+                                     set.count == 1 && !sculldrip_is_member(&set, SCULLDRIP_PURPOSE_SIGN) &&
+                                     sculldrip_is_member(&set, UINT32_MAX));
+    expect_true("what has 32 bits is told as it is", sculldrip_narrow(UINT32_MAX) == UINT32_MAX &&
+                                                         sculldrip_narrow(UINT32_MAX - 1) == UINT32_MAX - 1 &&
+                                                         sculldrip_narrow(0) == 0);
+}
+
+/* A count past the slots: no more than 16 members are looked at. The set ends a heap block, so that a step outside is seen. */
+static void count_too_many(void) {
+    struct sculldrip_set *set = calloc(1, sizeof *set);
+    if (set == NULL) {
+        expect_true("no memory", 0);
+        return;
+    }
+    set->count = SIZE_MAX;
+    set->members[SCULLDRIP_SET_MEMBERS - 1] = 7;
+    expect_true("the last member", sculldrip_is_member(set, 7) && !sculldrip_is_member(set, 8));
+    free(set);
+}
+
+/* sculldrip_octets refuses an image of no record and a field that lies outside, but not a record that is not well-shaped. */
+static void refuse_octets(void) {
+    const struct sculldrip_part two = {0, 2};
+    uint64_t image[SCULLDRIP_IMAGE_WORDS], part[SCULLDRIP_PART_WORDS];
+    sculldrip_clear(image);
+    sculldrip_put_attestation(image, 5, 9);
+    sculldrip_put_octets(image, SCULLDRIP_SOFTWARE, SCULLDRIP_ROW_ATTESTATION_APPLICATION_ID, two);
+    expect("octets, version 5", sculldrip_octets(image, SCULLDRIP_IMAGE_WORDS, 0, 709, 2, part, SCULLDRIP_PART_WORDS), 0, 1);
+    expect("octets, outside", sculldrip_octets(image, SCULLDRIP_IMAGE_WORDS, 0, 709, 1, part, SCULLDRIP_PART_WORDS),
+           SCULLDRIP_REFUSED_ILL_SHAPED, 0);
+    expect("octets, another field", sculldrip_octets(image, SCULLDRIP_IMAGE_WORDS, 0, 710, 1, part, SCULLDRIP_PART_WORDS), 0,
+           0);
+    image[SCULLDRIP_AT_LEVEL] = UINT64_MAX;
+    expect("octets, no record", sculldrip_octets(image, SCULLDRIP_IMAGE_WORDS, 0, 709, 2, part, SCULLDRIP_PART_WORDS),
+           SCULLDRIP_REFUSED_ILL_SHAPED, 0);
+}
+
 /* A key that may sign; its request says no more than that, and is strict in all else. */
 static void make_key(uint64_t *image, uint64_t *request) {
     static const uint32_t sign[] = {SCULLDRIP_PURPOSE_SIGN}, digest[] = {SCULLDRIP_DIGEST_SHA_2_256},
@@ -180,10 +246,11 @@ int main(void) {
     list_refusals();
     list_record();
     look_away();
+    ask_wide_words();
+    count_too_many();
+    refuse_octets();
     say_nothing();
     name_everything();
-#ifdef SCULLDRIP_TRY_VERSION /* scripts/test_library sets it where the library exports its version */
     expect_true("header and library are of one version", sculldrip_version() == SCULLDRIP_VERSION);
-#endif
     return failed;
 }

@@ -4,7 +4,8 @@
  *   gcc -Wall -Wextra -Werror -Iinclude examples/c/panel.c target/staticlib/libsculldrip.a -o target/panel
  *   target/panel samples/document01.der 1609459200000 010203
  *
- * It answers 0 where the key may sign, 1 where it may not, and 2 where there is nothing to rule on. */
+ * It answers 0 where the key may sign, 1 where it may not, and 2 where there is nothing to rule on or to write to. */
+#include <errno.h>
 #include <inttypes.h>
 #include <stdio.h>
 #include <stdlib.h>
@@ -20,6 +21,11 @@
 /* One byte more than an extension has, so that a file that is too long is seen. */
 struct extension {
     uint8_t bytes[SCULLDRIP_EXTENSION_BYTES + 1];
+    size_t length;
+};
+
+struct challenge {
+    uint8_t bytes[CHALLENGE_BYTES + 1];
     size_t length;
 };
 
@@ -74,24 +80,30 @@ static int may_sign(const uint64_t *image, uint64_t clock) {
     return 1;
 }
 
-/* How many bytes the hex digits give; one more than a challenge may have where they give too many or are none. */
-static size_t from_hex(const char *digits, uint8_t *bytes) {
-    size_t count = strlen(digits) / 2;
-    if (strlen(digits) % 2 != 0 || count > CHALLENGE_BYTES)
-        return CHALLENGE_BYTES + 1;
-    for (size_t i = 0; i < count; i++) {
-        unsigned byte;
-        if (sscanf(digits + 2 * i, "%2x", &byte) != 1)
-            return CHALLENGE_BYTES + 1;
-        bytes[i] = (uint8_t)byte;
-    }
-    return count;
+/* Digits alone, of a number of 64 bits. Anything else is no clock, and nothing is ruled by it. */
+static int clock_from(const char *digits, uint64_t *clock) {
+    size_t length = strlen(digits);
+    errno = 0;
+    *clock = strtoull(digits, NULL, 10);
+    return length > 0 && strspn(digits, "0123456789") == length && errno == 0;
 }
 
-static void enrol(const uint64_t *image, const struct extension *extension, const char *challenge) {
-    uint8_t expected[CHALLENGE_BYTES + 1] = {0};
-    size_t length = from_hex(challenge, expected);
-    uint64_t answer = sculldrip_enrol(image, SCULLDRIP_IMAGE_WORDS, extension->bytes, extension->length, expected, length);
+/* Pairs of hex digits alone. Of too many bytes one more is kept than a challenge may have, which no enrolment allows. */
+static int challenge_from(const char *digits, struct challenge *challenge) {
+    size_t length = strlen(digits), count = length / 2;
+    if (length % 2 != 0 || strspn(digits, "0123456789abcdefABCDEF") != length)
+        return 0;
+    challenge->length = count < sizeof challenge->bytes ? count : sizeof challenge->bytes;
+    for (size_t i = 0; i < challenge->length; i++) {
+        const char pair[] = {digits[2 * i], digits[2 * i + 1], '\0'};
+        challenge->bytes[i] = (uint8_t)strtoul(pair, NULL, 16);
+    }
+    return 1;
+}
+
+static void enrol(const uint64_t *image, const struct extension *extension, const struct challenge *expected) {
+    uint64_t answer = sculldrip_enrol(image, SCULLDRIP_IMAGE_WORDS, extension->bytes, extension->length, expected->bytes,
+                                      expected->length);
     if (sculldrip_number(answer) == 0)
         printf("enrolment yes\n");
     else
@@ -114,8 +126,18 @@ static void write_again(const uint64_t *image, const struct extension *extension
 int main(int argc, char **argv) {
     static struct extension extension;
     static uint64_t image[SCULLDRIP_IMAGE_WORDS];
+    struct challenge challenge;
+    uint64_t clock;
     if (argc < 3 || argc > 4) {
         fprintf(stderr, "usage: panel FILE CLOCK [CHALLENGE]\n");
+        return 2;
+    }
+    if (!clock_from(argv[2], &clock)) {
+        fprintf(stderr, "panel: %s: a clock is a number of ms since 1970, in digits and within 64 bits\n", argv[2]);
+        return 2;
+    }
+    if (argc == 4 && !challenge_from(argv[3], &challenge)) {
+        fprintf(stderr, "panel: %s: a challenge is pairs of hex digits\n", argv[3]);
         return 2;
     }
     if (!load(argv[1], &extension))
@@ -123,9 +145,13 @@ int main(int argc, char **argv) {
     list(&extension);
     if (sculldrip_number(sculldrip_read(extension.bytes, extension.length, image, SCULLDRIP_IMAGE_WORDS)) != 0)
         return 2;
-    int permitted = may_sign(image, strtoull(argv[2], NULL, 10));
+    int permitted = may_sign(image, clock);
     if (argc == 4)
-        enrol(image, &extension, argv[3]);
+        enrol(image, &extension, &challenge);
     write_again(image, &extension);
+    if (fflush(stdout) != 0 || ferror(stdout)) {
+        perror("panel: standard output");
+        return 2;
+    }
     return permitted ? 0 : 1;
 }

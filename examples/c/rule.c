@@ -4,7 +4,8 @@
  *   gcc -Wall -Wextra -Werror -Iinclude examples/c/rule.c target/staticlib/libsculldrip.a -o target/rule
  *   target/rule samples/document01.der --clock 1970-01-01T00:00:00Z
  *
- * It answers 0 where the use is permitted, 1 where it is refused, and 2 where there is nothing to rule on. */
+ * It answers 0 where the use is permitted, 1 where it is refused, and 2 where there is nothing to rule on or the ruling could
+ * not be written. */
 #define _POSIX_C_SOURCE 200809L /* clock_gettime */
 #include <inttypes.h>
 #include <stdio.h>
@@ -21,9 +22,6 @@ enum { PERMITTED = 0, REFUSED = 1, NOTHING_TO_RULE_ON = 2 };
 
 /* Document 01's floor. */
 #define DEFAULT_FLOOR UINT64_C(1600000000000)
-
-/* The years of 2^64 ms end in 584,556,019. */
-#define LAST_YEAR 584000000
 
 struct name {
     const char *text;
@@ -148,13 +146,13 @@ static int take_time(const char **text, uint64_t *ms) {
     return hours < 24 && minutes < 60 && seconds < 60;
 }
 
-/* 2021-01-01, with a time behind a T, and a Z at the end. */
+/* 2021-01-01, with a time behind a T, and a Z at the end; up to the last ms of 64 bits, in the year 584,556,019. */
 static int date_from(const char *text, uint64_t *ms) {
     uint64_t year, month, day, time_of_day = 0, days;
     unsigned before;
     take(&text, '+');
     if (!take_number(&text, 9, &year) || !take(&text, '-') || !take_number(&text, 2, &month) || !take(&text, '-') ||
-        !take_number(&text, 2, &day) || year < 1970 || year > LAST_YEAR || month < 1 || month > 12 || day < 1 ||
+        !take_number(&text, 2, &day) || year < 1970 || month < 1 || month > 12 || day < 1 ||
         day > days_of_month(year, (unsigned)month))
         return 0;
     if (take(&text, 'T') && (!take_time(&text, &time_of_day) || *text != 'Z'))
@@ -164,7 +162,7 @@ static int date_from(const char *text, uint64_t *ms) {
     for (before = 1; before < month; before++)
         days += days_of_month(year, before);
     *ms = days * MS_A_DAY + time_of_day;
-    return *text == '\0';
+    return *text == '\0' && days <= UINT64_MAX / MS_A_DAY && *ms >= time_of_day;
 }
 
 static uint64_t now(void) {
@@ -192,7 +190,8 @@ static const char usage[] =
     "  --token BITS       the user was authenticated, by these types\n"
     "  --token-age MS     so long ago\n"
     "  --token-matches    for this very operation\n"
-    "A purpose, digest or padding may also be its number. Exit status: 0 permitted, 1 refused, 2 nothing to rule on.\n";
+    "A purpose, digest or padding may also be its number. Exit status: 0 permitted, 1 refused, 2 nothing to rule on (as after\n"
+    "--help), or the ruling could not be written.\n";
 
 static void stop(const char *what, const char *about) {
     fprintf(stderr, "rule: %s: %s\n", about, what);
@@ -280,7 +279,7 @@ static struct question asked(int count, char **words) {
     for (i = 1; i < count; i++) {
         if (strcmp(words[i], "--help") == 0) {
             fputs(usage, stdout);
-            exit(PERMITTED);
+            exit(NOTHING_TO_RULE_ON);
         }
         if (said(&question, words[i]))
             continue;
@@ -328,16 +327,22 @@ static void print_time(const char *what, uint64_t ms, const char *note) {
     printf("%s%s (%" PRIu64 " ms)%s\n", what, date_of(ms, date), ms, note);
 }
 
-static void print_question(const struct question *question) {
+/* Where digest and padding, of which not all was said, come from: past 34 the lists allow them. */
+static const char *choice(const struct question *question, unsigned number) {
+    if (question->has_digest && question->has_padding)
+        return "";
+    return number == 0 || number > SCULLDRIP_REFUSED_DIGEST_NOT_ALLOWED ? " (what was not said: as the key's lists allow)"
+                                                                        : " (what was not said: chosen here)";
+}
+
+static void print_question(const struct question *question, unsigned number) {
     const uint64_t *request = question->request;
     char purpose[DATE_BYTES], digest[DATE_BYTES], padding[DATE_BYTES];
-    int is_chosen = !question->has_digest || !question->has_padding;
     printf("Asked:  %s", name_of(purposes, request[SCULLDRIP_REQUEST_PURPOSE], purpose));
     if (request[SCULLDRIP_REQUEST_PURPOSE] != SCULLDRIP_PURPOSE_AGREE_KEY &&
         request[SCULLDRIP_REQUEST_PURPOSE] != SCULLDRIP_PURPOSE_ATTEST_KEY)
         printf(", digest %s, padding %s%s", name_of(digests, request[SCULLDRIP_REQUEST_DIGEST], digest),
-               name_of(paddings, request[SCULLDRIP_REQUEST_PADDING], padding),
-               is_chosen ? " (what was not said: as the key's lists allow)" : "");
+               name_of(paddings, request[SCULLDRIP_REQUEST_PADDING], padding), choice(question, number));
     print_time("\nClock:  ", request[SCULLDRIP_REQUEST_CLOCK], question->has_clock ? "" : ", this machine's");
     print_time("Floor:  ", request[SCULLDRIP_REQUEST_CLOCK_FLOOR],
                question->has_floor ? "" : ", as none was given: a clock before it is wrong");
@@ -372,7 +377,7 @@ static void print_dates(const uint64_t *image) {
         printf("    none, in neither list\n");
 }
 
-static void print_permit(const uint64_t *image, const uint64_t *permit) {
+static void print_permit(const uint64_t *request, const uint64_t *image, const uint64_t *permit) {
     unsigned bit;
     printf("\nPERMITTED\n\n    Each rule that was applied, and who enforces it:\n");
     for (bit = 0; bit < 16; bit++) {
@@ -385,6 +390,11 @@ static void print_permit(const uint64_t *image, const uint64_t *permit) {
     if (sculldrip_attestation_level(image) == SCULLDRIP_LEVEL_SOFTWARE ||
         sculldrip_keymint_level(image) == SCULLDRIP_LEVEL_SOFTWARE)
         print_words("A security level of the key is Software, so nothing counts as enforced by hardware.");
+    if (request[SCULLDRIP_REQUEST_CLOCK] < request[SCULLDRIP_REQUEST_CLOCK_FLOOR]) {
+        putchar('\n');
+        print_words("The clock is before the floor, so it is wrong. No date of the key applies to this use: the clock was not "
+                    "judged.");
+    }
 }
 
 /* Whether a date, of this row, is why the ruling gave this number. */
@@ -491,7 +501,8 @@ static void choose(struct question *question, const uint64_t *image) {
 static const char *level_name(uint32_t level) {
     return level == SCULLDRIP_LEVEL_SOFTWARE              ? "Software"
            : level == SCULLDRIP_LEVEL_TRUSTED_ENVIRONMENT ? "TrustedEnvironment"
-                                                          : "StrongBox";
+           : level == SCULLDRIP_LEVEL_STRONGBOX           ? "StrongBox"
+                                                          : "unknown";
 }
 
 int main(int count, char **words) {
@@ -505,11 +516,15 @@ int main(int count, char **words) {
     number = rule(image, question.request, permit);
     printf("Key:    %s, version %" PRIu32 ", levels %s and %s\n", question.path, sculldrip_attestation_version(image),
            level_name(sculldrip_attestation_level(image)), level_name(sculldrip_keymint_level(image)));
-    print_question(&question);
+    print_question(&question, number);
     print_dates(image);
     if (number == 0)
-        print_permit(image, permit);
+        print_permit(question.request, image, permit);
     else
         print_refusal(question.request, image, number);
+    if (fflush(stdout) != 0 || ferror(stdout)) {
+        perror("rule: standard output");
+        return NOTHING_TO_RULE_ON;
+    }
     return number == 0 ? PERMITTED : REFUSED;
 }

@@ -6,6 +6,11 @@ use crate::refusal::Refusal;
 use crate::request::{Permit, Request};
 use crate::sys;
 
+pub(crate) fn version() -> u64 {
+    // SAFETY: nothing is lent.
+    unsafe { sys::sculldrip_version() }
+}
+
 /// The count of elements.
 pub(crate) fn read(bytes: &[u8], image: &mut Image) -> Result<u64, Refusal> {
     let words = image.words.len();
@@ -59,12 +64,18 @@ pub(crate) fn enrol(image: &Image, buffer: &[u8], expected: &[u8]) -> Result<(),
     Refusal::check(answer).map(|_| ())
 }
 
-pub(crate) fn list(bytes: &[u8]) -> String {
-    // What is longer than any extension is refused, and its length buys it no memory.
-    let room = if bytes.len() > sys::EXTENSION_BYTES { sys::REFUSED_LISTING_BYTES } else { sys::LISTING_BYTES };
+/// The listing, where the room is enough for it.
+fn list_into(bytes: &[u8], room: usize) -> Result<String, Refusal> {
     let mut text = vec![0; room];
     // SAFETY: each pointer is good for the length beside it.
     let answer = unsafe { sys::sculldrip_list(bytes.as_ptr(), bytes.len(), text.as_mut_ptr(), text.len()) };
-    text.truncate(Refusal::check(answer).expect("there is room for any listing") as usize);
-    String::from_utf8(text).expect("a listing is ASCII")
+    text.truncate(Refusal::check(answer)? as usize);
+    Ok(String::from_utf8(text).expect("a listing is ASCII"))
+}
+
+pub(crate) fn list(bytes: &[u8]) -> String {
+    // A refusal fits here: what is refused buys no memory by its length.
+    list_into(bytes, sys::REFUSED_LISTING_BYTES)
+        .or_else(|_| list_into(bytes, sys::LISTING_BYTES))
+        .expect("there is room for any listing")
 }

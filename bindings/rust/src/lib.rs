@@ -2,7 +2,7 @@
 //! libsculldrip.a.
 //!
 //! Any bytes can be read: they are accepted with all that they say, or refused with a number and a place. What was read can
-//! be listed, written again, and ruled on.
+//! be listed, written again, and ruled on. What is left to a caller is that the thread has [`sys::STACK_BYTES`] of stack left.
 //!
 //! ```
 //! use sculldrip::{Clock, Digest, Extension, Padding, Purpose, Request};
@@ -46,6 +46,15 @@ pub use request::{Clock, Digest, Mark, Operation, Padding, Permit, Purpose, Requ
 /// ```
 pub fn listing(bytes: &[u8]) -> String {
     calls::list(bytes)
+}
+
+/// The interface that the linked library was built for. It must be [`sys::VERSION`], the one that this crate is for.
+///
+/// ```
+/// assert_eq!(sculldrip::interface_version(), sculldrip::sys::VERSION);
+/// ```
+pub fn interface_version() -> u64 {
+    calls::version()
 }
 
 /// A small extension of version 3, to try things with: a key that may sign from the start of 2021.

@@ -45,7 +45,8 @@ impl BootState {
             0 => BootState::Verified,
             1 => BootState::SelfSigned,
             2 => BootState::Unverified,
-            _ => BootState::Failed,
+            3 => BootState::Failed,
+            _ => unreachable!("neither a read nor a caller leaves another state"),
         }
     }
 }

@@ -31,7 +31,8 @@ impl Level {
         match word {
             0 => Level::Software,
             1 => Level::TrustedEnvironment,
-            _ => Level::StrongBox,
+            2 => Level::StrongBox,
+            _ => unreachable!("neither a read nor a caller leaves another level"),
         }
     }
 }

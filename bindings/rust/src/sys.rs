@@ -1,8 +1,8 @@
 //! The C interface as include/sculldrip.h declares it, for callers who keep images themselves.
 //!
 //! Each function takes anything and answers one number: its low byte is 0 or a refusal's number, the rest a count, a length
-//! or a place. The duties of a caller are that each pointer is good for the length beside it (of length 0 it may be null), and
-//! that what is lent to be written overlaps nothing else.
+//! or a place. The duties of a caller are that each pointer is good for the length beside it (of length 0 it may be null), that
+//! what is lent to be written overlaps nothing else, and that the thread has [`STACK_BYTES`] of stack left.
 //!
 //! ```
 //! let (extension, mut image) = ([0x30, 0x80], [0u64; sculldrip::sys::IMAGE_WORDS]);
