@@ -110,13 +110,19 @@ module _ {A : Type 0} (b : Bool) (n p : ℕ) (m : Answer A) where
 
 module _ (l : FieldList) where
   -- rows 24 and 26 are those of 702 and 704
-  origin-row : (f : ℕ → Bool) → numberIs f (fieldValue (fieldsOf l placeAt) 702) ≡ presentAt l 24 && f (getD (l .values) 24 0)
+  pub origin-value : fieldValue (fieldsOf l placeAt) 702 ≡ pick (presentAt l 24) (some (num (getD (l .values) 24 0))) none
   unfolding valueAt rows
-  origin-row f = ap (numberIs f) (row-value l placeAt 24 (lit< tt)) ∙ number-at f (presentAt l 24) (getD (l .values) 24 0)
+  origin-value = row-value l placeAt 24 (lit< tt)
+
+  pub root-value : fieldValue (fieldsOf l placeAt) 704 ≡ pick (presentAt l 26) (some (trust (rootOf placeAt (l .root)))) none
+  unfolding valueAt rows
+  root-value = row-value l placeAt 26 (lit< tt)
+
+  origin-row : (f : ℕ → Bool) → numberIs f (fieldValue (fieldsOf l placeAt) 702) ≡ presentAt l 24 && f (getD (l .values) 24 0)
+  origin-row f = ap (numberIs f) origin-value ∙ number-at f (presentAt l 24) (getD (l .values) 24 0)
 
   root-row : (f : RootWith Place → Bool) → rootIs f (fieldValue (fieldsOf l placeAt) 704) ≡ presentAt l 26 && f (rootOf placeAt (l .root))
-  unfolding valueAt rows
-  root-row f = ap (rootIs f) (row-value l placeAt 26 (lit< tt)) ∙ root-at f (presentAt l 26) (rootOf placeAt (l .root))
+  root-row f = ap (rootIs f) root-value ∙ root-at f (presentAt l 26) (rootOf placeAt (l .root))
 
   pub not-generated : not (presentAt l 24) ≡ true → false ≡ generated (fieldsOf l placeAt)
   unfolding generated

@@ -1,16 +1,14 @@
--- The theorems of specs/Statements.antt, guard by guard. Assumes nothing.
-use mathlib.Core.Path.{_≡_, refl, sym, ap, ap₂, subst, _∙_}
-use mathlib.Core.Logic.{_⊎_, inl, inr}
+-- Where the answer is yes, guard by guard, and that past 20 the software list is not read. Assumes nothing.
+use mathlib.Core.Path.{_≡_, refl, sym, ap, ap₂, _∙_}
 use mathlib.Core.Bool.{Bool, true, false, not, _&&_, _||_}
 use mathlib.Core.Option.{Option, none, some}
 use mathlib.Core.List.{List, [], _∷_}
 use Prim.Native.Nat.{ℕ, _≤_}
-use native.Mathlib.Omega.{arith}
 use lib.ListN.{length}
 use lib.Dec.{T, eqb, leb, eqb→eq, eqb-refl, leb→le, le→leb, not-T}
 use lib.Ieee.Bits.{is-true}
-use Rattle.answer.specs.Answer.{Answer, got, refused, guard}
-use Rattle.answer.proofs.Answer.{refused-got, guard-yes, guard-case}
+use Rattle.answer.specs.Answer.{got}
+use Rattle.answer.proofs.Answer.{guard-yes, guard-case}
 use Rattle.answer.proofs.Logic.{and-left, and-right, and-both, not-equal}
 use Rattle.schema.specs.Content.{RootWith, ValueWith, num, nul, oct, nums, trust, FieldWith, Place, placeAt}
 use Rattle.records.specs.Content.{partOf, fieldsOf}
@@ -19,7 +17,7 @@ use Rattle.records.specs.Shape.{wellShapedRecord}
 use Rattle.records.specs.Parts.{partsInside}
 use Rattle.records.specs.declared.Record.{Record}
 use Rattle.enrolment.specs.Enrolled.{sameOctets, challengeMet, eitherSoftware, rootIs, numberIs, hasRoot, bootLocked, bootVerified, generated, judged, enrolled}
-use Rattle.enrolment.specs.Statements.{Enrollable, EnrolledExactly, RefusalNumbers, HardwareAlone}
+use Rattle.enrolment.specs.Statements.{Enrollable, EnrolledExactly, HardwareAlone}
 
 -- ---- what the tests say
 
@@ -35,6 +33,32 @@ unfolding sameOctets
 same-itself [] = tt
 same-itself (x ∷ xs) = and-both (eqb x x) (sameOctets xs xs) (eqb-refl x) (same-itself xs)
 
+-- 50
+module _ (expected challenge : List ℕ) where
+  pub record Met : Type 0 where
+    pub given : 1 ≤ length expected
+    pub few : length expected ≤ 128
+    pub same : expected ≡ challenge
+
+  abbrev few-same : Bool
+  few-same = leb (length expected) 128 && sameOctets expected challenge
+
+  pub to-met : T (challengeMet expected challenge) → Met
+  unfolding challengeMet
+  to-met t =
+      let rest = and-right (leb 1 (length expected)) few-same t in
+      record {
+        given = leb→le 1 (length expected) (and-left (leb 1 (length expected)) few-same t);
+        few = leb→le (length expected) 128 (and-left (leb (length expected) 128) (sameOctets expected challenge) rest);
+        same = same-is expected challenge (and-right (leb (length expected) 128) (sameOctets expected challenge) rest);
+      }
+
+  pub from-met : Met → T (challengeMet expected challenge)
+  unfolding challengeMet
+  from-met w =
+      and-both (leb 1 (length expected)) few-same (le→leb 1 (length expected) (w .given))
+      (and-both (leb (length expected) 128) (sameOctets expected challenge) (le→leb (length expected) 128 (w .few)) (rw (← w .same) (same-itself expected)))
+
 neither : (a b : Bool) → T (not (a || b)) → T (not a) × T (not b)
 neither true b t = absurd t
 neither false b t = (tt, t)
@@ -43,7 +67,7 @@ not-either : (a b : Bool) → T (not a) → T (not b) → T (not (a || b))
 not-either true b s t = absurd s
 not-either false b s t = t
 
-root-found : (f : RootWith Place → Bool) (o : Option (ValueWith Place)) → T (rootIs f o) → (r : RootWith Place) × (o ≡ some (trust r)) × T (f r)
+pub root-found : (f : RootWith Place → Bool) (o : Option (ValueWith Place)) → T (rootIs f o) → (r : RootWith Place) × (o ≡ some (trust r)) × T (f r)
 unfolding rootIs
 root-found f none t = absurd t
 root-found f (some (num n)) t = absurd t
@@ -82,15 +106,15 @@ module _ (r : Record) (s expected : List ℕ) where
       guard-case _ _ _ _ e₆ λ verified e₇.
       guard-case _ _ _ _ e₇ λ origin e₈.
       let levels = neither (eqb (r .attestation .level) 0) (eqb (r .keymint .level) 0) above in
-      let rest = and-right (leb 1 (length expected)) (leb (length expected) 128 && sameOctets expected challenge) met in
+      let said = to-met expected challenge met in
       let found = root-found (λ x. x .locked) (fieldValue fields 704) locked in
       let number = number-found (λ n. eqb n 0) (fieldValue fields 702) origin in
       record {
         shaped = shaped;
         inside = inside;
-        given = leb→le 1 (length expected) (and-left (leb 1 (length expected)) (leb (length expected) 128 && sameOctets expected challenge) met);
-        few = leb→le (length expected) 128 (and-left (leb (length expected) 128) (sameOctets expected challenge) rest);
-        challenge = same-is expected challenge (and-right (leb (length expected) 128) (sameOctets expected challenge) rest);
+        given = said .given;
+        few = said .few;
+        challenge = said .same;
         level = not-equal (r .attestation .level) 0 (levels .0);
         keymintLevel = not-equal (r .keymint .level) 0 (levels .1);
         root = found .0;
@@ -103,9 +127,7 @@ module _ (r : Record) (s expected : List ℕ) where
   from-enrollable : Enrollable r s expected → enrolled r s expected ≡ got tt
   unfolding enrolled judged challengeMet eitherSoftware hasRoot bootLocked bootVerified generated rootIs numberIs
   from-enrollable w =
-      let met : T (challengeMet expected challenge) =
-      and-both (leb 1 (length expected)) (leb (length expected) 128 && sameOctets expected challenge) (le→leb 1 (length expected) (w .given))
-      (and-both (leb (length expected) 128) (sameOctets expected challenge) (le→leb (length expected) 128 (w .few)) (rw (← w .challenge) (same-itself expected))) in
+      let met = from-met expected challenge (record { given = w .given; few = w .few; same = w .challenge }) in
       let above : T (not (eitherSoftware (r .attestation .level) (r .keymint .level))) =
       not-either (eqb (r .attestation .level) 0) (eqb (r .keymint .level) 0) (not-T (eqb (r .attestation .level) 0) (λ t. w .level (eqb→eq (r .attestation .level) 0 t)))
       (not-T (eqb (r .keymint .level) 0) (λ t. w .keymintLevel (eqb→eq (r .keymint .level) 0 t))) in
@@ -116,33 +138,6 @@ module _ (r : Record) (s expected : List ℕ) where
 
 pub enrolled-exactly : EnrolledExactly
 enrolled-exactly r s expected = (to-enrollable r s expected, from-enrollable r s expected)
-
--- ---- no, by which number
-
-abbrev Numbered : ℕ → Type 0
-Numbered n = (n ≡ 20) ⊎ ((50 ≤ n) × (n ≤ 55))
-
--- each refusal of the answer has such a number, and place 0
-record Refuses (a : Answer (Unit {0})) : Type 0 where
-  says : (n place : ℕ) → a ≡ refused n place → (place ≡ 0) × Numbered n
-
-then : (b : Bool) (k : ℕ) (a : Answer (Unit {0})) → Numbered k → Refuses a → Refuses (guard b k 0 a)
-unfolding guard
-then true k a x w = w
-then false k a x w = record { says = λ n place e. (cc, subst Numbered (cc) x) }
-
-pub refusal-numbers : RefusalNumbers
-unfolding enrolled judged
-refusal-numbers r s expected =
-    then _ 20 _ (inl refl)
-    (then _ 20 _ (inl refl)
-    (then _ 50 _ (inr (omega arith, omega arith))
-    (then _ 51 _ (inr (omega arith, omega arith))
-    (then _ 52 _ (inr (omega arith, omega arith))
-    (then _ 53 _ (inr (omega arith, omega arith))
-    (then _ 54 _ (inr (omega arith, omega arith))
-    (then _ 55 _ (inr (omega arith, omega arith))
-    (record { says = λ n place e. absurd (refused-got (sym e)) })))))))) .says
 
 -- ---- past 20
 

@@ -1,2 +1,3 @@
 pub mod Enrolled
+pub mod Refuses
 pub mod Statements

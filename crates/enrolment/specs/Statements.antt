@@ -1,7 +1,8 @@
 -- What is proved of the enrolment ruling (document 01, "The enrolment ruling"). Each statement stands under the sentence
--- that it renders, and the theorem of the same name in proofs/Enrollable.antt. Read `EnrolledExactly` first.
+-- that it renders, and the theorem of the same name in proofs/Enrollable.antt or Refused.antt. Read Refuses.antt first, then
+-- `EnrolledExactly` and `RefusedExactly`.
 use mathlib.Core.Path.{_≡_}
-use mathlib.Core.Logic.{_⊎_, _↔_}
+use mathlib.Core.Logic.{_↔_}
 use mathlib.Core.Bool.{true}
 use mathlib.Core.Option.{some}
 use mathlib.Core.List.{List}
@@ -16,6 +17,7 @@ use Rattle.records.specs.Shape.{wellShapedRecord}
 use Rattle.records.specs.Parts.{partsInside}
 use Rattle.records.specs.declared.Record.{Record}
 use Rattle.enrolment.specs.Enrolled.{enrolled}
+use Rattle.enrolment.specs.Refuses.{RefusesFirst}
 
 -- a key that may be taken on: none of the refusals holds
 pub record Enrollable (r : Record) (s expected : List ℕ) : Type 0 where
@@ -41,11 +43,12 @@ pub record Enrollable (r : Record) (s expected : List ℕ) : Type 0 where
 abbrev pub EnrolledExactly : Type 0
 EnrolledExactly = (r : Record) (s expected : List ℕ) → (enrolled r s expected ≡ got tt) ↔ Enrollable r s expected
 
--- "20 ..; 50 ..; 51 ..; 52 ..; 53 ..; 54 ..; 55": no other number is given; "Refusals of rulings .. have place 0"
-abbrev pub RefusalNumbers : Type 0
-RefusalNumbers =
-    (r : Record) (s expected : List ℕ) (n place : ℕ) → enrolled r s expected ≡ refused n place
-    → (place ≡ 0) × ((n ≡ 20) ⊎ ((50 ≤ n) × (n ≤ 55)))
+-- "the first that holds of": a number is given exactly where what it says holds and what no smaller number says does;
+-- "Refusals of rulings .. have place 0"
+abbrev pub RefusedExactly : Type 0
+RefusedExactly =
+    (r : Record) (s expected : List ℕ) (n place : ℕ)
+    → (enrolled r s expected ≡ refused n place) ↔ (place ≡ 0) × RefusesFirst n r s expected
 
 -- two records that agree on all but the software list
 pub record SameButSoftware (r r′ : Record) : Type 0 where

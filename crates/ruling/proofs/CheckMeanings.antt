@@ -12,15 +12,13 @@ use Rattle.answer.specs.Answer.{pick}
 use Rattle.answer.proofs.Logic.{by-le}
 use Rattle.ruling.specs.Checks.{knownPurpose, purposeRefused, algorithmFits, paddingFits, paddingRefused, looksAtDigest, digestFits, digestRefused, digestBytes, keyBytes, keySizeRefused, signs, clockRefused, activeRefused, expiryRefused, authMissing, tokenRefused, recent, freshRefused, nullRefused, usesRefused}
 use Rattle.ruling.specs.Allowed.{Held, Each, InSets, Either, Signing, Deciphering, Recent}
+use Rattle.ruling.specs.Refuses.{Known, Fits}
 use Rattle.ruling.proofs.Means.{Means, equal, at-most, below, true-flag, both, one-of, only-with, negated, twice, says, held, each, in-sets}
 
-itself : (b : Bool) → Means b (T b)
+pub itself : (b : Bool) → Means b (T b)
 itself b = record { to = λ t. t; from = λ t. t }
 
 -- ---- 30 to 32
-
-abbrev pub Known : ℕ → Type 0
-Known p = (p ≡ 1) ⊎ ((p ≡ 2) ⊎ ((p ≡ 6) ⊎ (p ≡ 7)))
 
 pub means-30 : (p : ℕ) → Means (not (not (knownPurpose p))) (Known p)
 unfolding knownPurpose
@@ -29,9 +27,6 @@ means-30 p = twice (one-of (equal p 1) (one-of (equal p 2) (one-of (equal p 6) (
 pub means-31 : (p : ℕ) (s h : Option (List ℕ)) → Means (not (purposeRefused p s h)) (InSets p s h)
 unfolding purposeRefused
 means-31 p s h = twice (in-sets p s h)
-
-abbrev pub Fits : ℕ → ℕ → Type 0
-Fits p a = ((a ≡ 1) × ((p ≡ 1) ⊎ ((p ≡ 2) ⊎ (p ≡ 7)))) ⊎ ((a ≡ 3) × ((p ≡ 2) ⊎ ((p ≡ 6) ⊎ (p ≡ 7))))
 
 pub means-32 : (p a : ℕ) → Means (not (not (algorithmFits p a))) (Fits p a)
 unfolding algorithmFits

@@ -1,16 +1,18 @@
--- The first check that refuses: a check at a time, and group by group. Assumes nothing.
-use mathlib.Core.Path.{_≡_, refl, sym, ap, subst, _∙_}
-use mathlib.Core.Bool.{Bool, true, false, _&&_}
+-- The first check that refuses: a check at a time, group by group, and by what each number says. Assumes nothing.
+use mathlib.Core.Path.{_≡_, refl, sym, _∙_}
+use mathlib.Core.Logic.{_⊎_, inl, inr, ⊎-elim}
+use mathlib.Core.Bool.{Bool, true, false, not, _&&_}
 use mathlib.Core.List.{List, [], _∷_, _++_}
-use Prim.Native.Nat.{ℕ, _<_, _≤_}
+use Prim.Native.Nat.{ℕ, suc, _<_, _≤_}
 use native.Mathlib.Omega.{arith}
 use lib.Dec.{T, leb, ltb, ltb→lt, leb→le}
 use Rattle.answer.specs.Answer.{pick}
 use Rattle.answer.proofs.Logic.{and-left, and-right}
 use Rattle.ruling.specs.Rules.{Rules}
 use Rattle.ruling.specs.Ruling.{Check, firstRefusing, shapeChecks, dateChecks, tokenChecks, deviceChecks, checks}
-use Rattle.ruling.specs.Statements.{Clear, First}
+use Rattle.ruling.specs.Refuses.{Says}
 use Rattle.ruling.specs.declared.request.Request.{Request}
+use Rattle.ruling.proofs.Means.{Means}
 
 -- ---- a check at a time: y is what the code found of it
 
@@ -84,7 +86,11 @@ module _ (s h : Rules) (q : Request) where
   unfolding shapeChecks dateChecks tokenChecks deviceChecks
   all-numbered = tt
 
--- ---- what the first that refuses says of the list
+-- ---- where none refuses
+
+abbrev pub Clear : List Check → Type 0
+Clear [] = Unit {0}
+Clear (c ∷ cs) = T (not (c .1)) × Clear cs
 
 pub none-refuses : (cs : List Check) → T (numbered cs) → firstRefusing cs ≡ 0 → Clear cs
 unfolding firstRefusing pick
@@ -98,38 +104,52 @@ clear-first [] k = refl
 clear-first ((n, true) ∷ cs) k = absurd (k .0)
 clear-first ((n, false) ∷ cs) k = clear-first cs (k .1)
 
-pub first-found : (cs : List Check) → (firstRefusing cs ≡ 0 → ⊥) → First cs (firstRefusing cs)
+-- ---- the first that refuses, by what each number says
+
+-- each check finds just what its number says, given that those before it do not refuse
+abbrev pub Finds : List Check → List (ℕ × Type 0) → Type 0
+Finds [] [] = Unit {0}
+Finds [] (x ∷ xs) = ⊥
+Finds (c ∷ cs) [] = ⊥
+Finds (c ∷ cs) (x ∷ xs) = (c .0 ≡ x .0) × (Means (c .1) (x .1) × (T (not (c .1)) → Finds cs xs))
+
+-- the numbers ascend, from low on
+abbrev pub ascending : ℕ → List (ℕ × Type 0) → Bool
+ascending low [] = true
+ascending low (x ∷ xs) = leb low (x .0) && ascending (suc (x .0)) xs
+
+pub says-from : (xs : List (ℕ × Type 0)) (low n : ℕ) → T (ascending low xs) → Says xs n → low ≤ n
+says-from [] low n t w = absurd w
+says-from ((k, P) ∷ xs) low n t (inl (e, x)) = let l : low ≤ k = leb→le low k (and-left (leb low k) (ascending (suc k) xs) t) in omega arith
+says-from ((k, P) ∷ xs) low n t (inr w) =
+    let l : low ≤ k = leb→le low k (and-left (leb low k) (ascending (suc k) xs) t) in
+    let m : suc k ≤ n = says-from xs (suc k) n (and-right (leb low k) (ascending (suc k) xs) t) w in
+    omega arith
+
+-- n's sentence holds, and that of no smaller number
+abbrev FirstSays : List (ℕ × Type 0) → ℕ → Type 0
+FirstSays xs n = Says xs n × ((m : ℕ) → m < n → Says xs m → ⊥)
+
+pub first-says : (cs : List Check) (xs : List (ℕ × Type 0)) (low : ℕ) → T (ascending low xs) → Finds cs xs → (firstRefusing cs ≡ 0 → ⊥) → FirstSays xs (firstRefusing cs)
 unfolding firstRefusing pick
-first-found [] n = absurd (n refl)
-first-found ((k, true) ∷ cs) n = record { earlier = []; later = cs; parted = refl; clear = tt }
-first-found ((k, false) ∷ cs) n =
-    let w = first-found cs n in
-    record { earlier = (k, false) ∷ w .earlier; later = w .later; parted = ap (λ (l : List Check). (k, false) ∷ l) (w .parted); clear = (tt, w .clear) }
+first-says [] xs low t f n = absurd (n refl)
+first-says (c ∷ cs) [] low t f n = absurd f
+first-says ((k, true) ∷ cs) ((j, P) ∷ xs) low t (e, (w, r)) n = (inl (e, w .to tt), none)
+  where
+    none : (m : ℕ) → m < k → Says ((j, P) ∷ xs) m → ⊥
+    none m l (inl (g, x)) = omega arith
+    none m l (inr v) = let i : suc j ≤ m = says-from xs (suc j) m (and-right (leb low j) (ascending (suc j) xs) t) v in omega arith
+first-says ((k, false) ∷ cs) ((j, P) ∷ xs) low t (e, (w, r)) n =
+    let z = first-says cs xs (suc j) (and-right (leb low j) (ascending (suc j) xs) t) (r tt) n in
+    (inr (z .0), λ m l. ⊎-elim (λ y. w .from (y .1)) (z .1 m l))
 
-first-at : (earlier : List Check) (n : ℕ) (later : List Check) → Clear earlier → firstRefusing (earlier ++ ((n, true) ∷ later)) ≡ n
+pub says-first : (cs : List Check) (xs : List (ℕ × Type 0)) (low n : ℕ) → T (ascending low xs) → Finds cs xs → FirstSays xs n → firstRefusing cs ≡ n
 unfolding firstRefusing pick
-first-at [] n later k = refl
-first-at ((m, true) ∷ cs) n later k = absurd (k .0)
-first-at ((m, false) ∷ cs) n later k = first-at cs n later (k .1)
-
-pub first-is : (cs : List Check) (n : ℕ) → First cs n → firstRefusing cs ≡ n
-first-is cs n w = ap firstRefusing (w .parted) ∙ first-at (w .earlier) n (w .later) (w .clear)
-
--- ---- numbers within bounds
-
--- each check's number is from low to high
-abbrev pub between : ℕ → ℕ → List Check → Bool
-between low high [] = true
-between low high (c ∷ cs) = (leb low (c .0) && leb (c .0) high) && between low high cs
-
-first-between : (low high : ℕ) (earlier : List Check) (n : ℕ) (later : List Check) → T (between low high (earlier ++ ((n, true) ∷ later))) → (low ≤ n) × (n ≤ high)
-first-between low high [] n later t =
-    let u = and-left (leb low n && leb n high) (between low high later) t in
-    (leb→le low n (and-left (leb low n) (leb n high) u), leb→le n high (and-right (leb low n) (leb n high) u))
-first-between low high (c ∷ cs) n later t = first-between low high cs n later (and-right (leb low (c .0) && leb (c .0) high) (between low high (cs ++ ((n, true) ∷ later))) t)
-
--- document 01's numbers of the checks
-pub first-numbered : (s h : Rules) (q : Request) (n : ℕ) → First (checks s h q) n → (30 ≤ n) × (n ≤ 46)
-unfolding shapeChecks dateChecks tokenChecks deviceChecks
-first-numbered s h q n w =
-    first-between 30 46 (w .earlier) n (w .later) (subst (λ (l : List Check). T (between 30 46 l)) (w .parted) tt)
+says-first cs [] low n t f (v, none) = absurd v
+says-first [] (x ∷ xs) low n t f (v, none) = absurd f
+says-first ((k, true) ∷ cs) ((j, P) ∷ xs) low n t (e, (w, r)) (inl (g, x), none) = e ∙ sym g
+says-first ((k, true) ∷ cs) ((j, P) ∷ xs) low n t (e, (w, r)) (inr v, none) =
+    absurd (none j (says-from xs (suc j) n (and-right (leb low j) (ascending (suc j) xs) t) v) (inl (refl, w .to tt)))
+says-first ((k, false) ∷ cs) ((j, P) ∷ xs) low n t (e, (w, r)) (inl (g, x), none) = absurd (w .from x)
+says-first ((k, false) ∷ cs) ((j, P) ∷ xs) low n t (e, (w, r)) (inr v, none) =
+    says-first cs xs (suc j) n (and-right (leb low j) (ascending (suc j) xs) t) (r tt) (v, λ m l y. none m l (inr y))

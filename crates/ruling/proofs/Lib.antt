@@ -7,6 +7,7 @@ pub mod Answers
 pub mod Means
 pub mod CheckMeanings
 pub mod Shaping
+pub mod CheckRefusals
 pub mod Rulewise
 pub mod Permitted
 pub mod Marked

@@ -6,11 +6,13 @@ use mathlib.Core.Bool.{Bool, true, false, not, _&&_, _||_, true≢false}
 use mathlib.Core.Option.{Option, none, some}
 use mathlib.Core.List.{List, [], _∷_}
 use Prim.Native.Nat.{ℕ, zero, suc, _<_, _≤_}
-use native.Mathlib.Nat.{le-of-suc-le-suc}
+use native.Mathlib.Nat.{le-of-suc-le-suc, lt-of-not-le}
 use native.Mathlib.Omega.{arith}
 use lib.Dec.{T, eqb, leb, ltb, eqb→eq, eqb-refl, leb→le, le→leb, T-not, not-T}
+use Rattle.answer.proofs.Logic.{by-le}
 use Rattle.ruling.specs.Rules.{there, allows, either, bothAllow, member, setAllows}
 use Rattle.ruling.specs.Allowed.{Held, Each, Among, InSets}
+use Rattle.ruling.specs.Refuses.{InOne}
 
 pub record Means (b : Bool) (P : Type 0) : Type 0 where
   pub to : T b → P
@@ -71,6 +73,22 @@ module _ {a : Bool} {P : Type 0} (f : Means a P) where
   pub says : {Q : Type 0} → (P → Q) → (Q → P) → Means a Q
   says g h = record { to = λ t. g (f .to t); from = λ q. f .from (h q) }
 
+pub above : (m n : ℕ) → Means (not (leb m n)) (n < m)
+above m n = says (negated (at-most m n)) lt-of-not-le (λ g l. omega arith)
+
+pub at-least : (m n : ℕ) → Means (not (ltb m n)) (n ≤ m)
+at-least m n = says (negated (below m n)) (λ k. by-le n m (λ l. l) (λ l. absurd (k l))) (λ g l. omega arith)
+
+-- of two tests, one does not hold
+pub not-both : (a b : Bool) {P Q : Type 0} → Means (not a) P → Means (not b) Q → Means (not (a && b)) (P ⊎ Q)
+not-both true b f g = record { to = λ t. inr (g .to t); from = λ p. ⊎-elim (λ x. absurd (f .from x)) (λ x. g .from x) p }
+not-both false b f g = record { to = λ t. inl (f .to tt); from = λ p. tt }
+
+-- a test, by what its failing means
+pub refusing : (b : Bool) {P : Type 0} → Means (not b) P → Means b (P → ⊥)
+refusing true f = record { to = λ t p. f .from p; from = λ n. tt }
+refusing false f = record { to = λ t. absurd t; from = λ n. n (f .to tt) }
+
 -- ---- tags
 
 module _ {A : Type 0} where
@@ -82,6 +100,9 @@ module _ {A : Type 0} where
   pub held : (s h : Option A) → Means (either s h) (Held s h)
   held s h = one-of (is-there s) (is-there h)
 
+  some-inj : {a b : A} → some a ≡ some b → a ≡ b
+  some-inj e = cc
+
   module _ (f : A → Bool) (P : A → Type 0) (m : (a : A) → Means (f a) (P a)) where
     one-list : (o : Option A) → Means (allows f o) ((a : A) → o ≡ some a → P a)
     unfolding allows
@@ -90,6 +111,15 @@ module _ {A : Type 0} where
 
     pub each : (s h : Option A) → Means (bothAllow f s h) (Each s h P)
     each s h = both (one-list s) (one-list h)
+
+  module _ (f : A → Bool) (P : A → Type 0) (m : (a : A) → Means (not (f a)) (P a)) where
+    not-one-list : (o : Option A) → Means (not (allows f o)) ((a : A) × ((o ≡ some a) × P a))
+    unfolding allows
+    not-one-list none = record { to = λ t. absurd t; from = λ p. let z : _≡_ {A = ℕ} 0 1 = cc (p .1 .0) in absurd (omega arith) }
+    not-one-list (some b) = record { to = λ t. (b, (refl, m b .to t)); from = λ p. let z : b ≡ p .0 = some-inj (p .1 .0) in m b .from (rw z (p .1 .1)) }
+
+    pub in-one : (s h : Option A) → Means (not (bothAllow f s h)) (InOne s h P)
+    in-one s h = not-both (allows f s) (allows f h) (not-one-list s) (not-one-list h)
 
 pub among : (n : ℕ) (l : List ℕ) → Means (member n l) (Among n l)
 unfolding member

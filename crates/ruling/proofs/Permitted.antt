@@ -1,8 +1,9 @@
--- What a permit means, and what a refusal's number says. Assumes nothing.
-use mathlib.Core.Path.{_≡_, refl, sym, subst, _∙_}
+-- What a permit means, and what a refusal's number says: check by check what it finds is what its number says, so that the
+-- first that refuses has the smallest number whose sentence holds. Assumes nothing.
+use mathlib.Core.Path.{_≡_, refl, sym, _∙_}
 use mathlib.Core.Logic.{inl, inr, ⊎-elim}
 use mathlib.Core.Bool.{Bool, true, false}
-use Prim.Native.Nat.{ℕ}
+use Prim.Native.Nat.{ℕ, _≤_}
 use native.Mathlib.Omega.{arith}
 use lib.Dec.{eqb}
 use borrow.Author.Tests.{eq-eqb, ne-eqb}
@@ -13,10 +14,13 @@ use Rattle.records.specs.Shape.{wellShapedRecord}
 use Rattle.records.specs.declared.Record.{Record}
 use Rattle.ruling.specs.Rules.{Rules}
 use Rattle.ruling.specs.Ruling.{firstRefusing, shapeChecks, dateChecks, tokenChecks, deviceChecks, checks, Permit, permitOf, lookedAt, markOf, heldTags, unless, ruled, ruling}
-use Rattle.ruling.specs.Statements.{softwareRules, hardwareRules, PermittedExactly, RecordPermittedExactly, IllShapedIs20, WellShapedIsRuled, First, RefusalIsFirst, RefusedExactly, ChecksInOrder, RefusalNumbers}
+use Rattle.ruling.specs.Statements.{softwareRules, hardwareRules, PermittedExactly, RecordPermittedExactly, IllShapedIs20, WellShapedIsRuled, RefusalIsFirst, RefusedExactly}
+use Rattle.ruling.specs.Refuses.{sentences}
 use Rattle.ruling.specs.declared.request.Request.{Request}
-use Rattle.ruling.proofs.First.{all-numbered, none-refuses, clear-first, first-found, first-is, first-numbered}
+use Rattle.ruling.proofs.First.{Finds, all-numbered, none-refuses, clear-first, says-from, first-says, says-first}
 use Rattle.ruling.proofs.Means.{equal}
+use Rattle.ruling.proofs.CheckMeanings.{means-30, means-32}
+use Rattle.ruling.proofs.CheckRefusals.{finds-30, finds-31, algorithm, finds-32, finds-33, finds-34, finds-35, finds-36, finds-37, finds-38, finds-39, finds-40, finds-41, finds-so, finds-not-so, finds-46}
 use Rattle.ruling.proofs.Rulewise.{to-rules, from-rules}
 
 -- ---- a number and what follows where it is 0
@@ -53,13 +57,45 @@ permitted-exactly level keymintLevel s h q = (
   (λ x. (permitted level keymintLevel s h q, rw (eq-eqb (number level keymintLevel s h q) 0 (clear-first (checks s h q) (from-rules s h q x))) refl)),
 )
 
+-- one number more whose check finds just what it says
+next : {A B : Type 0} {n : ℕ} → A → B → (n ≡ n) × (A × B)
+next a b = (refl, (a, b))
+
+-- what the checks find is what the numbers say
+found : (s h : Rules) (q : Request) → Finds (checks s h q) (sentences s h q)
+unfolding shapeChecks dateChecks tokenChecks deviceChecks
+found s h q =
+    let p = q .purpose in
+    next (finds-30 p) λ k30.
+    next (finds-31 p (s .purpose) (h .purpose)) λ k31.
+    next (finds-32 s h p) λ k32.
+    let known = means-30 p .to k30 in
+    let fits = means-32 p (algorithm s h) .to k32 in
+    next (finds-33 s h q fits) λ k33.
+    next (finds-34 s h q fits k33) λ k34.
+    next (finds-35 s h q) λ k35.
+    next (finds-36 p (q .clock) known (q .floor) (s .active) (h .active) (s .origination) (h .origination) (s .usage) (h .usage)) λ k36.
+    next (finds-37 (q .clock) (s .active) (h .active)) λ k37.
+    next (finds-38 p (q .clock) known (s .origination) (h .origination) (s .usage) (h .usage)) λ k38.
+    next (finds-39 (s .noAuth) (h .noAuth) (s .authType) (h .authType)) λ k39.
+    next (finds-40 (q .token .there) (q .token .kinds) (s .authType) (h .authType)) λ k40.
+    next (finds-41 (q .uptime) (q .token .time) (q .handle) (q .token .challenge) (s .authType) (h .authType) (s .authTimeout) (h .authTimeout)) λ k41.
+    next (finds-so (s .unlocked) (h .unlocked) (q .locked)) λ k42.
+    next (finds-not-so (s .presence) (h .presence) (q .present)) λ k43.
+    next (finds-not-so (s .confirmation) (h .confirmation) (q .confirmed)) λ k44.
+    next (finds-so (s .earlyBoot) (h .earlyBoot) (q .«early_boot_over»)) λ k45.
+    next (finds-46 (q .uses) (s .useLimit) (h .useLimit)) λ k46.
+    tt
+
 pub refusal-is-first : RefusalIsFirst
 unfolding ruled unless pick
 refusal-is-first level keymintLevel s h q n place = (
-  (λ e. let u = unless-refused (firstRefusing (checks s h q)) _ e in (u .2, subst (λ (k : ℕ). First (checks s h q) k) (u .1) (first-found (checks s h q) (u .0)))),
+  (λ e.
+      let u = unless-refused (firstRefusing (checks s h q)) _ e in
+      (u .2, rw (u .1) at (first-says (checks s h q) (sentences s h q) 30 tt (found s h q) (u .0)))),
   (λ x.
-      let b = first-numbered s h q n (x .1) in
-      rw (x .0, first-is (checks s h q) n (x .1), ne-eqb n 0 (λ z. omega (arith, b .0))) refl),
+      let low : 30 ≤ n = says-from (sentences s h q) 30 n tt (x .1 .0) in
+      rw (x .0, says-first (checks s h q) (sentences s h q) 30 n tt (found s h q) (x .1), ne-eqb n 0 (λ z. omega arith)) refl),
 )
 
 -- ---- of a record
@@ -93,14 +129,3 @@ refused-exactly r q n place =
       (λ e. by-shape r (λ t. let w = by-rules .0 (sym (well-shaped-is-ruled r q t) ∙ e) in (w .0, inr (t, w .1))) (λ f. let g = sym e ∙ ill-shaped-is-20 r q f in (cc, inl (f, cc)))),
       (λ x. ⊎-elim (λ y. ill-shaped-is-20 r q (y .0) ∙ rw (x .0, y .1) refl) (λ y. well-shaped-is-ruled r q (y .0) ∙ by-rules .1 (x .0, y .1)) (x .1)),
     )
-
--- ---- which numbers
-
-pub checks-in-order : ChecksInOrder
-unfolding shapeChecks dateChecks tokenChecks deviceChecks
-checks-in-order s h q = refl
-
-pub refusal-numbers : RefusalNumbers
-refusal-numbers r q n place e =
-    let w = refused-exactly r q n place .0 e in
-    (w .0, ⊎-elim (λ x. inl (x .1)) (λ x. inr (first-numbered (softwareRules r) (hardwareRules r) q n (x .1))) (w .1))

@@ -11,9 +11,10 @@ use Rattle.ruling.specs.Rules.{Rules}
 use Rattle.ruling.specs.Checks.{agreed, expiry, clockRefused, expiryRefused}
 use Rattle.ruling.specs.Ruling.{shapeChecks, dateChecks, tokenChecks, deviceChecks, checks}
 use Rattle.ruling.specs.Allowed.{Held, Each, Allowed, Signing, Deciphering}
-use Rattle.ruling.specs.Statements.{Clear}
+use Rattle.ruling.specs.Refuses.{Fits}
 use Rattle.ruling.specs.declared.request.Request.{Request}
-use Rattle.ruling.proofs.CheckMeanings.{Fits, means-30, means-31, means-32, means-33, means-34, means-35, means-36, means-37, means-38, signing, deciphering, means-39, means-40, means-41, means-forbids, means-wants, means-46}
+use Rattle.ruling.proofs.First.{Clear}
+use Rattle.ruling.proofs.CheckMeanings.{means-30, means-31, means-32, means-33, means-34, means-35, means-36, means-37, means-38, signing, deciphering, means-39, means-40, means-41, means-forbids, means-wants, means-46}
 use Rattle.ruling.proofs.Shaping.{agreed-says, agreed-is, shape-of, shape-known, shape-fits, shape-padding, shape-digest, known-side}
 
 -- ---- the expiry date that applies, by the purpose

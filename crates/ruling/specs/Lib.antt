@@ -3,4 +3,5 @@ pub mod Checks
 pub mod Ruling
 pub mod Code
 pub mod Allowed
+pub mod Refuses
 pub mod Statements

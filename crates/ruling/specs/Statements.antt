@@ -1,13 +1,12 @@
 -- What is proved of the use ruling (document 01, "The use ruling"). Each statement stands under the sentence that it
 -- renders; the theorem of the same name stands in proofs/Permitted.antt, Marked.antt, TagRows.antt or NothingElse.antt. Read
--- Allowed.antt first, then `PermittedExactly`, `RefusedExactly`, `HardwareExactly` and `SoftwareExactly`.
+-- Allowed.antt and Refuses.antt first, then `PermittedExactly`, `RefusedExactly`, `HardwareExactly` and `SoftwareExactly`.
 use mathlib.Core.Path.{_≡_}
 use mathlib.Core.Logic.{_⊎_, _↔_}
-use mathlib.Core.Bool.{Bool, true, false, not}
-use mathlib.Core.List.{List, [], _∷_, _++_}
-use Prim.Native.Nat.{ℕ, _≤_, _/_, _%_, _^_}
+use mathlib.Core.Bool.{Bool, true, false}
+use mathlib.Core.List.{List, [], _∷_}
+use Prim.Native.Nat.{ℕ, _/_, _%_, _^_}
 use lib.Count.{ones}
-use lib.Dec.{T}
 use lib.ListN.{getD}
 use Rattle.answer.specs.Answer.{got, refused}
 use Rattle.answer.specs.Refusal.{illShaped}
@@ -18,8 +17,9 @@ use Rattle.records.specs.Shape.{wellShapedRecord}
 use Rattle.records.specs.declared.FieldList.{FieldList}
 use Rattle.records.specs.declared.Record.{Record}
 use Rattle.ruling.specs.Rules.{saidFields, holdsNumber, Rules, rulesOf}
-use Rattle.ruling.specs.Ruling.{Check, checks, heldTags, lookedAt, Permit, ruled, ruling}
+use Rattle.ruling.specs.Ruling.{heldTags, lookedAt, Permit, ruled, ruling}
 use Rattle.ruling.specs.Allowed.{Allowed}
+use Rattle.ruling.specs.Refuses.{RefusesFirst}
 use Rattle.ruling.specs.declared.request.Request.{Request}
 
 -- the rules of a record's lists
@@ -54,47 +54,19 @@ WellShapedIsRuled =
     (r : Record) (q : Request) → wellShapedRecord r ≡ true
     → ruling r q ≡ ruled (r .attestation .level) (r .keymint .level) (softwareRules r) (hardwareRules r) q
 
--- none of the checks refuses
-abbrev pub Clear : List Check → Type 0
-Clear [] = Unit {0}
-Clear (c ∷ cs) = T (not (c .1)) × Clear cs
-
--- the check of this number refuses, and none before it
-pub record First (cs : List Check) (n : ℕ) : Type 0 where
-  pub earlier : List Check
-  pub later : List Check
-  pub parted : cs ≡ earlier ++ ((n, true) ∷ later)
-  pub clear : Clear earlier
-
--- "Checks, in order": a number is given exactly where its check is the first that refuses; "Refusals of rulings .. have
--- place 0"
+-- "Checks, in order": a number is given exactly where what it says holds and what no smaller number says does; "Refusals of
+-- rulings .. have place 0"
 abbrev pub RefusalIsFirst : Type 0
 RefusalIsFirst =
     (level keymintLevel : ℕ) (s h : Rules) (q : Request) (n place : ℕ)
-    → (ruled level keymintLevel s h q ≡ refused n place) ↔ (place ≡ 0) × First (checks s h q) n
+    → (ruled level keymintLevel s h q ≡ refused n place) ↔ (place ≡ 0) × RefusesFirst n s h q
 
 -- the same of a record, with 20
 abbrev pub RefusedExactly : Type 0
 RefusedExactly =
     (r : Record) (q : Request) (n place : ℕ)
     → (ruling r q ≡ refused n place)
-    ↔ (place ≡ 0) × (((wellShapedRecord r ≡ false) × (n ≡ 20)) ⊎ ((wellShapedRecord r ≡ true) × First (checks (softwareRules r) (hardwareRules r) q) n))
-
--- the checks' numbers, in order
-abbrev pub numbersOf : List Check → List ℕ
-numbersOf [] = []
-numbersOf (c ∷ cs) = c .0 ∷ numbersOf cs
-
-abbrev pub ChecksInOrder : Type 0
-ChecksInOrder =
-    (s h : Rules) (q : Request)
-    → numbersOf (checks s h q) ≡ 30 ∷ 31 ∷ 32 ∷ 33 ∷ 34 ∷ 35 ∷ 36 ∷ 37 ∷ 38 ∷ 39 ∷ 40 ∷ 41 ∷ 42 ∷ 43 ∷ 44 ∷ 45 ∷ 46 ∷ []
-
--- so no other number is given
-abbrev pub RefusalNumbers : Type 0
-RefusalNumbers =
-    (r : Record) (q : Request) (n place : ℕ) → ruling r q ≡ refused n place
-    → (place ≡ 0) × ((n ≡ 20) ⊎ ((30 ≤ n) × (n ≤ 46)))
+    ↔ (place ≡ 0) × (((wellShapedRecord r ≡ false) × (n ≡ 20)) ⊎ ((wellShapedRecord r ≡ true) × RefusesFirst n (softwareRules r) (hardwareRules r) q))
 
 -- ---- marks
 
