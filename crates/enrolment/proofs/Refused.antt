@@ -83,10 +83,10 @@ is-not true e = absurd (true≢false e)
 is-not false e = tt
 
 -- 20
-joined : {A : Type 0} (b c : Bool) (n p : ℕ) (m : Answer A) → guard b n p (guard c n p m) ≡ guard (b && c) n p m
+joined : (b c : Bool) (k : ℕ) (a : Answer (Unit {0})) (xs : List (ℕ × Type 0)) → Exact (guard (b && c) k 0 a) xs → Exact (guard b k 0 (guard c k 0 a)) xs
 unfolding guard
-joined true c n p m = refl
-joined false c n p m = refl
+joined true c k a xs w = w
+joined false c k a xs w = w
 
 fails-one : (b c : Bool) → T (not (b && c)) → (b ≡ false) ⊎ (c ≡ false)
 fails-one true c t = inr (false-is c t)
@@ -188,7 +188,7 @@ unfolding enrolled judged bootLocked bootVerified
 exact r s expected =
     let h = fieldsOf (r .hardware) placeAt in
     let challenge = partOf s (r .challenge) in
-    rw (joined (wellShapedRecord r) (partsInside r (length s)) 20 0)
+    joined (wellShapedRecord r) (partsInside r (length s)) 20 _ _
     (then (wellShapedRecord r && partsInside r (length s)) 20 _ _ tt (fails-one (wellShapedRecord r) (partsInside r (length s))) (one-fails (wellShapedRecord r) (partsInside r (length s))) λ k20.
     then (challengeMet expected challenge) 50 _ _ tt (not-met expected challenge) (met-not expected challenge) λ k50.
     then (not (eitherSoftware (r .attestation .level) (r .keymint .level))) 51 _ _ tt (software (r .attestation .level) (r .keymint .level)) (is-software (r .attestation .level) (r .keymint .level)) λ k51.
