@@ -6,7 +6,7 @@ use lib.Seq.{slice}
 use Rattle.answer.specs.Answer.{Answer, got, refused}
 use Rattle.codec.specs.Octets.{Taken, taken}
 use Rattle.codec.specs.Limits.{extensionBytes, extensionDepth, extensionElements}
-use Rattle.codec.specs.Tree.{Node, Nodes, nodes, allNodes}
+use Rattle.codec.specs.Tree.{Node, Nodes, nodes, allNodes, run, walkElement}
 use Rattle.der.specs.declared.walk.Limits.{Limits}
 use Rattle.der.specs.declared.walk.Step.{Step}
 use Rattle.der.specs.declared.walk.Walked.{Walked}
@@ -43,6 +43,10 @@ counted met (refused k p) = refused k p
 abbrev pub summed : ℕ → Answer Nodes → Answer ℕ
 summed met (got ts) = got (met + allNodes ts)
 summed met (refused k p) = refused k p
+
+-- the count after a run of elements with depth levels left
+abbrev pub runCounted : ℕ → ℕ → ℕ → ℕ → ℕ → List ℕ → Answer ℕ
+runCounted most depth f met at s = summed met (run (walkElement most depth) f met at s)
 
 -- a step past an element goes on, and stays inside
 abbrev pub StepInside : ℕ → ℕ → Step → Type 0

@@ -5,6 +5,7 @@ use lib.ListN.{length}
 use lib.Dec.{leb}
 use Rattle.answer.specs.Answer.{Answer, got, refused, guard}
 use Rattle.answer.specs.Refusal.{badIdentifier, badLength, outputShort}
+use Rattle.codec.specs.Octets.{left}
 use Rattle.codec.specs.Header.{Identifier, identifierGood, lengthGood, headerOctets}
 use Rattle.der.specs.declared.write.Put.{Put}
 
@@ -22,3 +23,7 @@ headerPut out p i n =
     guard (identifierGood i) badIdentifier p
     (guard (lengthGood n) badLength p
     (roomFor out p (headerOctets i n)))
+
+-- the header there, or nothing changed
+abbrev pub headerLeft : List ℕ → ℕ → Identifier → ℕ → List ℕ
+headerLeft out p i n = left (headerPut out p i n) out p (headerOctets i n)

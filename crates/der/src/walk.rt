@@ -12,8 +12,8 @@ ghost use mathlib.Core.Path.{_≡_};
 ghost use Prim.Native.Nat.{ℕ, _-_, _≤_};
 ghost use lib.ListN.{length};
 ghost use lib.Seq.{slice};
-ghost use Rattle.codec.specs.Tree.{run, walkElement, firstPass};
-ghost use Rattle.der.specs.Walk.{ofStep, ofRun, ofWalked, counted, summed, nodeCount, StepInside, StepAt, extensionLimits};
+ghost use Rattle.codec.specs.Tree.{walkElement, firstPass};
+ghost use Rattle.der.specs.Walk.{ofStep, ofRun, ofWalked, counted, runCounted, nodeCount, StepInside, StepAt, extensionLimits};
 
 // "An extension has at most 8,192 bytes and 512 elements", "down to depth 8".
 pub const EXTENSION_BYTES: usize = 8192;
@@ -86,7 +86,7 @@ fn walk_element(s: &[u8], at: usize, end: usize, depth: usize, met: usize, most:
 // The elements from at to end, one after the other.
 fn walk_run(s: &[u8], at: usize, end: usize, depth: usize, met: usize, most: usize) -> Step
     requires { ⌜ (at ≤ end) × (end ≤ length (now s)) ⌝ }
-    ensures is { λ r. ⌜ ((f : ℕ) → end - at ≤ f → ofRun r ≡ summed met (run (walkElement most depth) f met at (slice at end (now (s .entry))))) ⌝ }
+    ensures is { λ r. ⌜ ((f : ℕ) → end - at ≤ f → ofRun r ≡ runCounted most depth f met at (slice at end (now (s .entry)))) ⌝ }
     ensures inside { λ r. ⌜ StepAt end r ⌝ }
 {
     let mut place = at;

@@ -8,10 +8,10 @@ ghost use Prim.Native.Nat.{ℕ, _+_, _<_, _≤_};
 ghost use lib.Dec.{leb};
 ghost use lib.ListN.{length};
 ghost use Rattle.codec.specs.Octets.{splice, left};
-ghost use Rattle.codec.specs.Shortest.{lowOctets, bits, integerSize, lengthSize, lengthOctets};
+ghost use Rattle.codec.specs.Shortest.{lowOctets, bits, integerSize, lengthOctets};
 ghost use Rattle.codec.specs.Integer.{integerElement};
 ghost use Rattle.codec.specs.Header.{identifier, identifierOctets, headerOctets};
-ghost use Rattle.der.specs.Write.{ofPut, headerPut, roomFor};
+ghost use Rattle.der.specs.Write.{ofPut, headerPut, headerLeft, roomFor};
 
 // The place after what was written; or a refusal with its place.
 pub enum Put {
@@ -128,7 +128,7 @@ fn write_header(out: &mut [u8], at: usize, form: u8, number: usize, size: usize)
 // The header of an element with size content octets.
 pub fn put_header(out: &mut [u8], at: usize, form: u8, number: usize, size: usize) -> Put
     ensures answer { λ r. ⌜ ofPut r ≡ headerPut (now (out .entry)) at (identifier form number) size ⌝ }
-    ensures output { λ r. ⌜ now (out .exit) ≡ left (headerPut (now (out .entry)) at (identifier form number) size) (now (out .entry)) at (headerOctets (identifier form number) size) ⌝ }
+    ensures output { λ r. ⌜ now (out .exit) ≡ headerLeft (now (out .entry)) at (identifier form number) size ⌝ }
 {
     if 8 <= form {
         return Put::Refused(BAD_IDENTIFIER, at);

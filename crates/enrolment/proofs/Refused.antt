@@ -10,6 +10,8 @@ use native.Mathlib.Omega.{arith}
 use lib.ListN.{length, getD}
 use lib.Dec.{T, eqb, leb, eqb→eq, leb→le, T-not, not-T}
 use Rattle.answer.specs.Answer.{Answer, got, refused, guard, pick}
+use Rattle.answer.specs.Sentences.{Says, SaysFirst}
+use Rattle.answer.proofs.Sentences.{ascending, says-from}
 use Rattle.answer.proofs.Answer.{refused-got}
 use Rattle.answer.proofs.Logic.{and-left, and-right, by-le, not-equal}
 use Rattle.schema.specs.Content.{RootWith, ValueWith, num, trust, FieldWith, Place, placeAt}
@@ -20,34 +22,17 @@ use Rattle.records.specs.Shape.{wellShapedRecord}
 use Rattle.records.specs.Parts.{partsInside}
 use Rattle.records.specs.declared.Record.{Record}
 use Rattle.enrolment.specs.Enrolled.{challengeMet, eitherSoftware, rootIs, numberIs, hasRoot, bootLocked, bootVerified, generated, judged, enrolled}
-use Rattle.enrolment.specs.Refuses.{RootThat, OriginThat, sentences, Says}
+use Rattle.enrolment.specs.Refuses.{RootThat, OriginThat, sentences}
 use Rattle.enrolment.specs.Statements.{RefusedExactly}
 use Rattle.enrolment.proofs.Answers.{origin-value, root-value}
 use Rattle.enrolment.proofs.Enrollable.{Met, to-met, from-met, root-found}
 
 -- ---- the first guard that refuses, by what each number says
 
--- the numbers ascend, from low on
-abbrev ascending : ℕ → List (ℕ × Type 0) → Bool
-ascending low [] = true
-ascending low (x ∷ xs) = leb low (x .0) && ascending (suc (x .0)) xs
-
-says-from : (xs : List (ℕ × Type 0)) (low n : ℕ) → T (ascending low xs) → Says xs n → low ≤ n
-says-from [] low n t w = absurd w
-says-from ((k, P) ∷ xs) low n t (inl (e, x)) = let l : low ≤ k = leb→le low k (and-left (leb low k) (ascending (suc k) xs) t) in omega arith
-says-from ((k, P) ∷ xs) low n t (inr w) =
-    let l : low ≤ k = leb→le low k (and-left (leb low k) (ascending (suc k) xs) t) in
-    let m : suc k ≤ n = says-from xs (suc k) n (and-right (leb low k) (ascending (suc k) xs) t) w in
-    omega arith
-
--- n's sentence holds, and that of no smaller number
-abbrev FirstSays : List (ℕ × Type 0) → ℕ → Type 0
-FirstSays xs n = Says xs n × ((m : ℕ) → m < n → Says xs m → ⊥)
-
 -- the answer is a refusal by just the first of these, with place 0
 record Exact (a : Answer (Unit {0})) (xs : List (ℕ × Type 0)) : Type 0 where
-  to : (n place : ℕ) → a ≡ refused n place → (place ≡ 0) × FirstSays xs n
-  from : (n : ℕ) → FirstSays xs n → a ≡ refused n 0
+  to : (n place : ℕ) → a ≡ refused n place → (place ≡ 0) × SaysFirst xs n
+  from : (n : ℕ) → SaysFirst xs n → a ≡ refused n 0
 
 nothing-more : Exact (got tt) []
 nothing-more = record { to = λ n place e. absurd (refused-got (sym e)); from = λ n w. absurd (w .0) }
@@ -65,10 +50,10 @@ then false k {P} a xs t f g next = record { to = to; from = from }
     none-before n m e l (inl (h, x)) = omega arith
     none-before n m e l (inr v) = let i : suc k ≤ m = says-from xs (suc k) m t v in omega arith
 
-    to : (n place : ℕ) → _≡_ {A = Answer (Unit {0})} (refused k 0) (refused n place) → (place ≡ 0) × FirstSays ((k, P) ∷ xs) n
+    to : (n place : ℕ) → _≡_ {A = Answer (Unit {0})} (refused k 0) (refused n place) → (place ≡ 0) × SaysFirst ((k, P) ∷ xs) n
     to n place e = let i : n ≡ k = cc in (cc, (inl (i, f tt), λ m. none-before n m i))
 
-    from : (n : ℕ) → FirstSays ((k, P) ∷ xs) n → _≡_ {A = Answer (Unit {0})} (refused k 0) (refused n 0)
+    from : (n : ℕ) → SaysFirst ((k, P) ∷ xs) n → _≡_ {A = Answer (Unit {0})} (refused k 0) (refused n 0)
     from n (inl (e, x), w) = rw e refl
     from n (inr v, w) = absurd (w k (says-from xs (suc k) n t v) (inl (refl, f tt)))
 

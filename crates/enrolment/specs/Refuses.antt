@@ -7,6 +7,7 @@ use mathlib.Core.Option.{none, some}
 use mathlib.Core.List.{List, [], _∷_}
 use Prim.Native.Nat.{ℕ, _<_}
 use lib.ListN.{length}
+use Rattle.answer.specs.Sentences.{SaysFirst}
 use Rattle.schema.specs.Content.{RootWith, num, trust, Place, placeAt}
 use Rattle.records.specs.Content.{partOf, fieldsOf}
 use Rattle.records.specs.Fields.{fieldValue}
@@ -40,14 +41,6 @@ sentences r s expected =
     ∷ (55, (fieldValue (fieldsOf (r .hardware) placeAt) 702 ≡ none) ⊎ OriginThat r (λ n. n ≡ 0 → ⊥))
     ∷ []
 
--- n is among the numbers, and what it says holds
-abbrev pub Says : List (ℕ × Type 0) → ℕ → Type 0
-Says [] n = ⊥
-Says (x ∷ xs) n = ((n ≡ x .0) × x .1) ⊎ Says xs n
-
-abbrev pub Refuses : ℕ → Record → List ℕ → List ℕ → Type 0
-Refuses n r s expected = Says (sentences r s expected) n
-
--- "the first that holds": what n says holds, and what no smaller number says does
+-- "the first that holds of"
 abbrev pub RefusesFirst : ℕ → Record → List ℕ → List ℕ → Type 0
-RefusesFirst n r s expected = Refuses n r s expected × ((m : ℕ) → m < n → Refuses m r s expected → ⊥)
+RefusesFirst n r s expected = SaysFirst (sentences r s expected) n

@@ -8,10 +8,11 @@ use Rattle.schema.specs.Rows.{ofKind}
 use Rattle.schema.specs.declared.Row.{Row}
 use Rattle.records.specs.declared.Part.{Part}
 use Rattle.records.specs.declared.Security.{Security}
+use Rattle.records.specs.declared.RootOfTrust.{RootOfTrust}
 use Rattle.records.specs.declared.FieldList.{FieldList}
 use Rattle.records.specs.declared.Record.{Record}
-use Rattle.records.specs.Content.{octetsAt, partOf, valueAt, fieldsOf, contentOf}
-use Rattle.listing.specs.Text.{numbersLine, octetsLine, valueText, fieldLine, fieldLines, headText, contentText, refusalText}
+use Rattle.records.specs.Content.{octetsAt, partOf, rootOf, valueAt, fieldsOf, contentOf}
+use Rattle.listing.specs.Text.{numbersLine, octetsLine, rootText, valueText, fieldLine, fieldLines, headText, contentText, refusalText}
 use Rattle.listing.specs.Put.{PutsText}
 use Rattle.listing.specs.Room.{parts, fieldOf, lineRoom, needed, refusalNeeded, listed}
 
@@ -22,6 +23,10 @@ PutsNumbers old p first a second b new q = PutsText old p (numbersLine first a s
 -- a line of a part of s, after its word
 abbrev pub PutsOctets : List ℕ → ℕ → List ℕ → List ℕ → Part → List ℕ → ℕ → Type 0
 PutsOctets old p word s part new q = PutsText old p (octetsLine word (partOf s part)) (length word + 2 * length s + 2) new q
+
+-- a root of trust, its parts lying in s
+abbrev pub PutsRoot : List ℕ → ℕ → List ℕ → RootOfTrust → List ℕ → ℕ → Type 0
+PutsRoot old p s root new q = PutsText old p (rootText (rootOf (octetsAt s) root)) (4 * length s + 26) new q
 
 -- the value of a row
 abbrev pub PutsValue : List ℕ → ℕ → List ℕ → FieldList → ℕ → Row → List ℕ → ℕ → Type 0

@@ -16,11 +16,11 @@ ghost use mathlib.Core.Path.{_≡_};
 ghost use mathlib.Core.List.{[], _∷_};
 ghost use Prim.Native.Nat.{_+_, _*_, _<_, _≤_};
 ghost use lib.ListN.{length, drop};
-ghost use Rattle.records.specs.Content.{octetsAt, partOf, membersOf, rootOf};
-ghost use Rattle.listing.specs.Text.{dash, decimal, hexDigit, hexText, octetsText, moreNumbers, numbersText, lockedText, stateText, rootText, named, countLine};
+ghost use Rattle.records.specs.Content.{partOf, membersOf};
+ghost use Rattle.listing.specs.Text.{dash, decimal, hexDigit, hexText, octetsText, moreNumbers, numbersText, lockedText, stateText, named, countLine};
 ghost use Rattle.listing.specs.Put.{PutsText};
 ghost use Rattle.listing.specs.Room.{ofListed};
-ghost use Rattle.listing.specs.Lines.{PutsNumbers, PutsOctets, PutsValue, PutsField, PutsList, PutsHead, PutsRecord, recordListed, recordLeft, refusalListed, refusalLeft};
+ghost use Rattle.listing.specs.Lines.{PutsNumbers, PutsOctets, PutsRoot, PutsValue, PutsField, PutsList, PutsHead, PutsRecord, recordListed, recordLeft, refusalListed, refusalLeft};
 
 // One octet at at, unless that is past the end; the next place.
 fn put_octet(out: &mut [u8], at: usize, b: u8) -> usize
@@ -158,7 +158,7 @@ fn put_state(out: &mut [u8], at: usize, locked: bool, state: u32) -> usize
 
 // Field 704: key, locked, state and, where there is one, hash.
 fn put_root(out: &mut [u8], at: usize, s: &[u8], root: RootOfTrust) -> usize
-    ensures { λ r. ⌜ PutsText (now (out .entry)) at (rootText (rootOf (octetsAt (now (s .entry))) root)) (4 * length (now (s .entry)) + 26) (now (out .exit)) r ⌝ }
+    ensures { λ r. ⌜ PutsRoot (now (out .entry)) at (now (s .entry)) root (now (out .exit)) r ⌝ }
 {
     let p = put_part(out, at, s, root.key);
     let q = put_state(out, p, root.locked, root.state);

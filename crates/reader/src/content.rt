@@ -16,18 +16,17 @@ use records::RootOfTrust;
 use schema::Kind;
 ghost use mathlib.Core.Path.{_≡_};
 ghost use mathlib.Core.Bool.{true, false};
-ghost use Prim.Native.Nat.{ℕ, _≤_};
+ghost use Prim.Native.Nat.{_≤_};
 ghost use lib.ListN.{length};
 ghost use lib.Seq.{slice};
 ghost use Rattle.codec.specs.Element.{exactly};
-ghost use Rattle.schema.specs.Table as table;
 ghost use Rattle.schema.specs.Rows.{ofKind};
 ghost use Rattle.schema.specs.Content.{placeAt};
-ghost use Rattle.schema.specs.Decode.{readValue, readOctets, readNull, readSet, readRoot, asPlace};
+ghost use Rattle.schema.specs.Decode.{readOctets, readNull, readSet, readRoot, asPlace};
 ghost use Rattle.records.specs.Content.{membersOf};
 ghost use Rattle.reader.specs.Leaf.{readNumber};
 ghost use Rattle.reader.specs.Root.{trustOf};
-ghost use Rattle.reader.specs.Content.{ofStepped, endStep, plainContent, contentValue};
+ghost use Rattle.reader.specs.Content.{ofStepped, endStep, plainContent, ReadsContent};
 ghost use Rattle.records.specs.Empty.{emptyRoot};
 ghost use Rattle.reader.specs.Inside.{ContentIn, ContentKept};
 
@@ -148,7 +147,7 @@ fn root_content(s: &[u8], at: usize, end: usize, hashed: bool) -> ContentRead
 // The content of a field, by its kind.
 pub(crate) fn read_content(s: &[u8], at: usize, end: usize, kind: Kind, hashed: bool) -> ContentRead
     requires { ⌜ end ≤ length (now s) ⌝ }
-    ensures is { λ r. ⌜ ((v p : ℕ) → hashed ≡ table.hashed v → ofStepped (r .step) (contentValue (ofKind kind) r) ≡ readValue asPlace v (ofKind kind) p at (slice at end (now (s .entry)))) ⌝ }
+    ensures is { λ r. ⌜ ReadsContent hashed (ofKind kind) at (slice at end (now (s .entry))) r ⌝ }
     ensures bounds { λ r. ⌜ ContentKept (ofKind kind) (length (now (s .entry))) r ⌝ }
 {
     match kind {

@@ -7,10 +7,11 @@ use Prim.Native.Nat.{ℕ, suc, _<_, _≤_}
 use native.Mathlib.Omega.{arith}
 use lib.Dec.{T, leb, ltb, ltb→lt, leb→le}
 use Rattle.answer.specs.Answer.{pick}
+use Rattle.answer.specs.Sentences.{Says, SaysFirst}
+use Rattle.answer.proofs.Sentences.{ascending, says-from}
 use Rattle.answer.proofs.Logic.{and-left, and-right}
 use Rattle.ruling.specs.Rules.{Rules}
 use Rattle.ruling.specs.Ruling.{Check, firstRefusing, shapeChecks, dateChecks, tokenChecks, deviceChecks, checks}
-use Rattle.ruling.specs.Refuses.{Says}
 use Rattle.ruling.specs.declared.request.Request.{Request}
 use Rattle.ruling.proofs.Means.{Means}
 
@@ -113,24 +114,7 @@ Finds [] (x ∷ xs) = ⊥
 Finds (c ∷ cs) [] = ⊥
 Finds (c ∷ cs) (x ∷ xs) = (c .0 ≡ x .0) × (Means (c .1) (x .1) × (T (not (c .1)) → Finds cs xs))
 
--- the numbers ascend, from low on
-abbrev pub ascending : ℕ → List (ℕ × Type 0) → Bool
-ascending low [] = true
-ascending low (x ∷ xs) = leb low (x .0) && ascending (suc (x .0)) xs
-
-pub says-from : (xs : List (ℕ × Type 0)) (low n : ℕ) → T (ascending low xs) → Says xs n → low ≤ n
-says-from [] low n t w = absurd w
-says-from ((k, P) ∷ xs) low n t (inl (e, x)) = let l : low ≤ k = leb→le low k (and-left (leb low k) (ascending (suc k) xs) t) in omega arith
-says-from ((k, P) ∷ xs) low n t (inr w) =
-    let l : low ≤ k = leb→le low k (and-left (leb low k) (ascending (suc k) xs) t) in
-    let m : suc k ≤ n = says-from xs (suc k) n (and-right (leb low k) (ascending (suc k) xs) t) w in
-    omega arith
-
--- n's sentence holds, and that of no smaller number
-abbrev FirstSays : List (ℕ × Type 0) → ℕ → Type 0
-FirstSays xs n = Says xs n × ((m : ℕ) → m < n → Says xs m → ⊥)
-
-pub first-says : (cs : List Check) (xs : List (ℕ × Type 0)) (low : ℕ) → T (ascending low xs) → Finds cs xs → (firstRefusing cs ≡ 0 → ⊥) → FirstSays xs (firstRefusing cs)
+pub first-says : (cs : List Check) (xs : List (ℕ × Type 0)) (low : ℕ) → T (ascending low xs) → Finds cs xs → (firstRefusing cs ≡ 0 → ⊥) → SaysFirst xs (firstRefusing cs)
 unfolding firstRefusing pick
 first-says [] xs low t f n = absurd (n refl)
 first-says (c ∷ cs) [] low t f n = absurd f
@@ -143,7 +127,7 @@ first-says ((k, false) ∷ cs) ((j, P) ∷ xs) low t (e, (w, r)) n =
     let z = first-says cs xs (suc j) (and-right (leb low j) (ascending (suc j) xs) t) (r tt) n in
     (inr (z .0), λ m l. ⊎-elim (λ y. w .from (y .1)) (z .1 m l))
 
-pub says-first : (cs : List Check) (xs : List (ℕ × Type 0)) (low n : ℕ) → T (ascending low xs) → Finds cs xs → FirstSays xs n → firstRefusing cs ≡ n
+pub says-first : (cs : List Check) (xs : List (ℕ × Type 0)) (low n : ℕ) → T (ascending low xs) → Finds cs xs → SaysFirst xs n → firstRefusing cs ≡ n
 unfolding firstRefusing pick
 says-first cs [] low n t f (v, none) = absurd v
 says-first [] (x ∷ xs) low n t f (v, none) = absurd f

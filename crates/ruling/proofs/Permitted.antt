@@ -8,6 +8,7 @@ use native.Mathlib.Omega.{arith}
 use lib.Dec.{eqb}
 use borrow.Author.Tests.{eq-eqb, ne-eqb}
 use Rattle.answer.specs.Answer.{got, refused, guard, pick}
+use Rattle.answer.proofs.Sentences.{says-from}
 use Rattle.answer.proofs.Answer.{refused-got, got-inj, pick-case}
 use Rattle.answer.proofs.Logic.{not-equal}
 use Rattle.records.specs.Shape.{wellShapedRecord}
@@ -17,7 +18,7 @@ use Rattle.ruling.specs.Ruling.{firstRefusing, shapeChecks, dateChecks, 
 use Rattle.ruling.specs.Statements.{softwareRules, hardwareRules, PermittedExactly, RecordPermittedExactly, IllShapedIs20, WellShapedIsRuled, RefusalIsFirst, RefusedExactly}
 use Rattle.ruling.specs.Refuses.{sentences}
 use Rattle.ruling.specs.declared.request.Request.{Request}
-use Rattle.ruling.proofs.First.{Finds, all-numbered, none-refuses, clear-first, says-from, first-says, says-first}
+use Rattle.ruling.proofs.First.{Finds, all-numbered, none-refuses, clear-first, first-says, says-first}
 use Rattle.ruling.proofs.Means.{equal}
 use Rattle.ruling.proofs.CheckMeanings.{means-30, means-32}
 use Rattle.ruling.proofs.CheckRefusals.{finds-30, finds-31, algorithm, finds-32, finds-33, finds-34, finds-35, finds-36, finds-37, finds-38, finds-39, finds-40, finds-41, finds-so, finds-not-so, finds-46}

@@ -8,6 +8,7 @@ use mathlib.Core.Option.{Option, some}
 use mathlib.Core.List.{List, [], _∷_}
 use Prim.Native.Nat.{ℕ, _+_, _*_, _-_, _<_, _≤_}
 use lib.Bits.{bitAnd}
+use Rattle.answer.specs.Sentences.{SaysFirst}
 use Rattle.ruling.specs.Rules.{Rules}
 use Rattle.ruling.specs.Checks.{digestBytes, keyBytes}
 use Rattle.ruling.specs.Allowed.{Held, Each, InSets, Either, Shape, Signing, Deciphering}
@@ -98,14 +99,6 @@ sentences s h q =
     ∷ (46, InOne (s .useLimit) (h .useLimit) (λ limit. limit ≤ q .uses))
     ∷ []
 
--- n is among the numbers, and what it says holds
-abbrev pub Says : List (ℕ × Type 0) → ℕ → Type 0
-Says [] n = ⊥
-Says (x ∷ xs) n = ((n ≡ x .0) × x .1) ⊎ Says xs n
-
-abbrev pub Refuses : ℕ → Rules → Rules → Request → Type 0
-Refuses n s h q = Says (sentences s h q) n
-
--- "Checks, in order": what n says holds, and what no smaller number says does
+-- "Checks, in order"
 abbrev pub RefusesFirst : ℕ → Rules → Rules → Request → Type 0
-RefusesFirst n s h q = Refuses n s h q × ((m : ℕ) → m < n → Refuses m s h q → ⊥)
+RefusesFirst n s h q = SaysFirst (sentences s h q) n

@@ -32,7 +32,7 @@ use Rattle.records.specs.declared.FieldList.{FieldList}
 use Rattle.records.specs.declared.Record.{Record}
 use Rattle.records.specs.Content.{octetsAt, partOf, membersOf, rootOf, setAt, valueAt, fieldAt, upTo, fieldsOf, contentOf}
 use Rattle.writer.specs.Plain.{plainValue}
-use Rattle.writer.specs.Size.{capped, elementSize, Sized, securityOctets, headOctets}
+use Rattle.writer.specs.Size.{capped, elementSize, Sized, securityOctets, headOctets, headElements}
 
 -- ---- pieces
 
@@ -286,7 +286,7 @@ head-sized xs ys challenge unique a b c d versions parts r e f q g h q₂ q₃ =
 
 module _ (r : Record) (s : List ℕ) where
   abbrev pub Head : List ℕ
-  Head = headOctets (securityOctets (r .attestation .version) (r .attestation .level)) (securityOctets (r .keymint .version) (r .keymint .level)) (partOf s (r .challenge)) (partOf s (r .unique))
+  Head = headElements s (r .attestation) (r .keymint) (r .challenge) (r .unique)
 
   -- the eight are the head and the two lists
   pub eight-is : Head ++ (listElement (fieldsOf (r .software) (octetsAt s)) ++ listElement (fieldsOf (r .hardware) (octetsAt s))) ≡ keyDescription (contentOf r s)

@@ -3,7 +3,7 @@
 use mathlib.Core.List.{List}
 use Prim.Native.Nat.{ℕ}
 use Rattle.schema.specs.Table.{Kind, set, number32, number64, null, octets, root}
-use Rattle.schema.specs.Content.{Value, num, nul, oct}
+use Rattle.schema.specs.Content.{Value, num, nul, oct, field, fieldElement}
 use Rattle.records.specs.Content.{octetsAt}
 
 -- a set and 704 have none here, and stand as NULL
@@ -14,3 +14,7 @@ plainValue s number64 value size = num value
 plainValue s null value size = nul
 plainValue s octets value size = oct (octetsAt s value size)
 plainValue s root value size = nul
+
+-- the element of the field that holds it
+abbrev pub plainField : ℕ → List ℕ → Kind → ℕ → ℕ → List ℕ
+plainField number s kind value size = fieldElement (field number (plainValue s kind value size))

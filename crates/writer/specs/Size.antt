@@ -9,8 +9,10 @@ use Rattle.codec.specs.Header.{identifier, identifierOctets}
 use Rattle.codec.specs.Integer.{integerElement}
 use Rattle.codec.specs.Element.{chainOctets}
 use Rattle.schema.specs.Content.{enumeratedElement, octetsElement, fieldElement, keyDescription, encode}
+use Rattle.records.specs.declared.Part.{Part}
 use Rattle.records.specs.declared.Record.{Record}
-use Rattle.records.specs.Content.{octetsAt, fieldsOf, contentOf}
+use Rattle.records.specs.declared.Security.{Security}
+use Rattle.records.specs.Content.{octetsAt, partOf, fieldsOf, contentOf}
 use Rattle.writer.specs.declared.size.Sizes.{Sizes}
 
 -- the lesser of n and 8,193
@@ -32,6 +34,15 @@ securityOctets version level = integerElement version ++ enumeratedElement level
 -- the six elements before the lists, from both versions with their levels
 unfoldable pub headOctets : List ℕ → List ℕ → List ℕ → List ℕ → List ℕ
 headOctets attestation keymint challenge unique = attestation ++ (keymint ++ (octetsElement challenge ++ octetsElement unique))
+
+-- the same of a record's values, whose parts lie in s
+abbrev pub headElements : List ℕ → Security → Security → Part → Part → List ℕ
+headElements s attestation keymint challenge unique =
+    headOctets
+    (securityOctets (attestation .version) (attestation .level))
+    (securityOctets (keymint .version) (keymint .level))
+    (partOf s challenge)
+    (partOf s unique)
 
 -- each list's fields, the eight elements, and the whole
 pub record Measured (r : Record) (s : List ℕ) (z : Sizes) : Type 0 where

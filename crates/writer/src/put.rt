@@ -27,8 +27,8 @@ ghost use Rattle.codec.specs.Element.{chainOctets};
 ghost use Rattle.schema.specs.Rows.{ofKind};
 ghost use Rattle.schema.specs.Content.{enumeratedElement, octetsElement, booleanElement, rootContent, valueElement, fieldElement, listElement, encode, nums, trust, field};
 ghost use Rattle.records.specs.Content.{octetsAt, partOf, membersOf, rootOf, fieldsOf, contentOf};
-ghost use Rattle.writer.specs.Plain.{plainValue};
-ghost use Rattle.writer.specs.Size.{Sized, securityOctets, headOctets, Measured};
+ghost use Rattle.writer.specs.Plain.{plainField, plainValue};
+ghost use Rattle.writer.specs.Size.{Sized, securityOctets, headElements, Measured};
 ghost use Rattle.writer.specs.Put.{Puts};
 
 // The header of an element with size content octets. The form is class and bit 6 of the first octet: 0 for a universal
@@ -212,7 +212,7 @@ fn put_plain_field(
     size: u64,
 ) -> usize
     requires { ⌜ number < 16384 ⌝ }
-    ensures { λ r. ⌜ Puts (now (out .entry)) at (fieldElement (field number (plainValue (now (s .entry)) (ofKind kind) value size))) (now (out .exit)) r ⌝ }
+    ensures { λ r. ⌜ Puts (now (out .entry)) at (plainField number (now (s .entry)) (ofKind kind) value size) (now (out .exit)) r ⌝ }
 {
     let body = plain_size(s, kind, value, size);
     let next = put_header(out, at, 5, number, body);
@@ -285,7 +285,7 @@ fn put_head(
     challenge: Part,
     unique: Part,
 ) -> usize
-    ensures { λ r. ⌜ Puts (now (out .entry)) at (headOctets (securityOctets (attestation .version) (attestation .level)) (securityOctets (keymint .version) (keymint .level)) (partOf (now (s .entry)) challenge) (partOf (now (s .entry)) unique)) (now (out .exit)) r ⌝ }
+    ensures { λ r. ⌜ Puts (now (out .entry)) at (headElements (now (s .entry)) attestation keymint challenge unique) (now (out .exit)) r ⌝ }
 {
     let p = put_security(out, at, attestation);
     let q = put_security(out, p, keymint);

@@ -21,7 +21,7 @@ ghost use Rattle.schema.specs.Rows.{ofKind};
 ghost use Rattle.schema.specs.Content.{enumeratedElement, octetsElement, rootContent, valueElement, fieldElement, nums, trust};
 ghost use Rattle.records.specs.Content.{octetsAt, partOf, membersOf, rootOf, fieldsOf};
 ghost use Rattle.writer.specs.Plain.{plainValue};
-ghost use Rattle.writer.specs.Size.{capped, elementSize, Sized, securityOctets, headOctets, Measured};
+ghost use Rattle.writer.specs.Size.{capped, elementSize, Sized, securityOctets, headElements, Measured};
 
 // Of the fields of each list and of the eight elements, without their headers; and of the whole encoding.
 pub(crate) struct Sizes {
@@ -177,7 +177,7 @@ fn head_size(
     challenge: Part,
     unique: Part,
 ) -> usize
-    ensures { λ n. ⌜ Sized (headOctets (securityOctets (attestation .version) (attestation .level)) (securityOctets (keymint .version) (keymint .level)) (partOf (now (s .entry)) challenge) (partOf (now (s .entry)) unique)) n ⌝ }
+    ensures { λ n. ⌜ Sized (headElements (now (s .entry)) attestation keymint challenge unique) n ⌝ }
 {
     let versions = add(security_size(attestation), security_size(keymint));
     let parts = add(part_size(s, challenge), part_size(s, unique));

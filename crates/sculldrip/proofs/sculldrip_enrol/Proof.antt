@@ -12,7 +12,10 @@ word-requires : tie.Need-word-requires
 word-requires c κs = search needs
 
 returns : tie.Need-returns
-returns c = numbered (enrol-none (c .before .before .before .before .before .before .before .args .image .now) (c .before .before .before .before .before .before .before .args .buffer .now) (c .before .before .before .before .before .before .before .args .expected .now) (c .before .before .before .record-of .result) (c .before .before .before .record-of .ensures .0) (c .before .if1 .taken)) (λ u. 0) (c .word .ensures)
+returns c =
+    let record-of = c .before .before .before in
+    let start = record-of .before .before .before .before in
+    numbered (enrol-none (start .args .image .now) (start .args .buffer .now) (start .args .expected .now) (record-of .record-of .result) (record-of .record-of .ensures .0) (c .before .if1 .taken)) (λ u. 0) (c .word .ensures)
 
 enrol-requires : tie.Need-enrol-requires
 enrol-requires c κs = search needs
@@ -30,10 +33,20 @@ word-requires-3 : tie.Need-word-requires-3
 word-requires-3 c κs = search needs
 
 returns-2 : tie.Need-returns-2
-returns-2 c = numbered (enrol-is (c .before .before .before .before .before .before .before .before .before .before .before .before .args .image .now) (c .before .before .before .before .before .before .before .before .before .before .before .before .args .buffer .now) (c .before .before .before .before .before .before .before .before .before .before .before .before .args .expected .now) (c .before .before .before .before .before .before .before .before .record-of .result) (c .before .before .before .before .before .before .before .before .record-of .ensures .0) (c .before .before .before .before .before .before .if1 .left) _ (c .before .before .before .before .enrol .ensures) (c .before .before .number .given .1)) (λ u. 0) (c .word2 .ensures)
+returns-2 c =
+    let enrol = c .before .before .before .before in
+    let if1 = enrol .before .before in
+    let record-of = if1 .before .before in
+    let start = record-of .before .before .before .before in
+    numbered (enrol-is (start .args .image .now) (start .args .buffer .now) (start .args .expected .now) (record-of .record-of .result) (record-of .record-of .ensures .0) (if1 .if1 .left) _ (enrol .enrol .ensures) (c .before .before .number .given .1)) (λ u. 0) (c .word2 .ensures)
 
 returns-3 : tie.Need-returns-3
-returns-3 c = numbered (enrol-is (c .before .before .before .before .before .before .before .before .before .before .before .args .image .now) (c .before .before .before .before .before .before .before .before .before .before .before .args .buffer .now) (c .before .before .before .before .before .before .before .before .before .before .before .args .expected .now) (c .before .before .before .before .before .before .before .record-of .result) (c .before .before .before .before .before .before .before .record-of .ensures .0) (c .before .before .before .before .before .if1 .left) Enrolment.Enrolled (c .before .before .before .enrol .ensures) (c .before .enum-told .given .1)) (λ u. 0) (c .word3 .ensures)
+returns-3 c =
+    let enrol = c .before .before .before in
+    let if1 = enrol .before .before in
+    let record-of = if1 .before .before in
+    let start = record-of .before .before .before .before in
+    numbered (enrol-is (start .args .image .now) (start .args .buffer .now) (start .args .expected .now) (record-of .record-of .result) (record-of .record-of .ensures .0) (if1 .if1 .left) Enrolment.Enrolled (enrol .enrol .ensures) (c .before .enum-told .given .1)) (λ u. 0) (c .word3 .ensures)
 
 pub sculldrip-enrol-spec : {M : Type 1} → statement M
 sculldrip-enrol-spec =

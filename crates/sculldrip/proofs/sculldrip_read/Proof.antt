@@ -26,13 +26,26 @@ same-length : tie.Need-same-length
 same-length c = search needs
 
 returns-2 : tie.Need-returns-2
-returns-2 c = read-filled (c .before .before .before .before .before .before .before .before .before .before .before .before .args .extension .now) (c .before .before .before .before .before .before .before .before .before .before .before .before .args .image .now) (c .before .before .before .before .before .before .before .before .before .if1 .left) (c .before .before .before .before .before .before .before .before .before .before .before .shared-slice-known .given) (c .before .before .before .before .before .before .before .before .read .result .said) (c .before .before .before .before .before .before .before .before .read .result .outcome) (c .before .before .before .before .before .before .before .before .read .ensures) (c .before .before .before .before .before .before .is-accepted .ensures) (c .before .before .before .before .before .if2 .taken) (c .read-word .ensures) (c .before .before .before .put-image .ensures)
+returns-2 c =
+    let put-image = c .before .before .before in
+    let if2 = put-image .before .before in
+    let is-accepted = if2 .before in
+    let read = is-accepted .before .before in
+    let if1 = read .before in
+    let shared-slice-known = if1 .before .before in
+    let start = shared-slice-known .before in
+    read-filled (start .args .extension .now) (start .args .image .now) (if1 .if1 .left) (shared-slice-known .shared-slice-known .given) (read .read .result .said) (read .read .result .outcome) (read .read .ensures) (is-accepted .is-accepted .ensures) (if2 .if2 .taken) (c .read-word .ensures) (put-image .put-image .ensures)
 
 read-word-requires-2 : tie.Need-read-word-requires-2
 read-word-requires-2 c κs = search needs
 
 returns-3 : tie.Need-returns-3
-returns-3 c = read-refused (c .before .before .before .before .before .before .before .before .args .extension .now) (c .before .before .before .before .before .before .before .before .args .image .now) (c .before .before .before .before .before .if1 .left) (c .before .before .before .before .before .before .before .shared-slice-known .given) (c .before .before .before .before .read .result .said) (c .before .before .before .before .read .result .outcome) (c .before .before .before .before .read .ensures) (c .before .before .is-accepted .ensures) (c .before .if2 .left) (c .read-word2 .ensures)
+returns-3 c =
+    let read = c .before .before .before .before in
+    let if1 = read .before in
+    let shared-slice-known = if1 .before .before in
+    let start = shared-slice-known .before in
+    read-refused (start .args .extension .now) (start .args .image .now) (if1 .if1 .left) (shared-slice-known .shared-slice-known .given) (read .read .result .said) (read .read .result .outcome) (read .read .ensures) (c .before .before .is-accepted .ensures) (c .before .if2 .left) (c .read-word2 .ensures)
 
 pub sculldrip-read-spec : {M : Type 1} → statement M
 sculldrip-read-spec =

@@ -18,7 +18,9 @@ word-requires-2 : tie.Need-word-requires-2
 word-requires-2 c κs = search needs
 
 returns-2 : tie.Need-returns-2
-returns-2 c = answered (λ p. 0) permitWords (c .before .before .before .before .before .before .args .permit .now) (rule-no-permit (c .before .before .before .before .before .before .args .image .now) (c .before .before .before .before .before .before .args .request .now) (c .before .before .before .before .before .before .args .permit .now) (c .before .before .if1 .left) (c .before .if2 .taken)) (c .word2 .ensures) refl
+returns-2 c =
+    let start = c .before .before .before .before .before .before in
+    answered (λ p. 0) permitWords (start .args .permit .now) (rule-no-permit (start .args .image .now) (start .args .request .now) (start .args .permit .now) (c .before .before .if1 .left) (c .before .if2 .taken)) (c .word2 .ensures) refl
 
 record-of-requires : tie.Need-record-of-requires
 record-of-requires c κs = search needs
@@ -27,7 +29,12 @@ word-requires-3 : tie.Need-word-requires-3
 word-requires-3 c κs = search needs
 
 returns-3 : tie.Need-returns-3
-returns-3 c = answered (λ p. 0) permitWords (c .before .before .before .before .before .before .before .before .before .args .permit .now) (rule-none (c .before .before .before .before .before .before .before .before .before .args .image .now) (c .before .before .before .before .before .before .before .before .before .args .request .now) (c .before .before .before .before .before .before .before .before .before .args .permit .now) (c .before .before .before .before .before .if1 .left) (c .before .before .before .before .if2 .left) (c .before .before .before .record-of .result) (c .before .before .before .record-of .ensures .0) (c .before .if3 .taken)) (c .word3 .ensures) refl
+returns-3 c =
+    let record-of = c .before .before .before in
+    let if2 = record-of .before in
+    let if1 = if2 .before in
+    let start = if1 .before .before .before .before in
+    answered (λ p. 0) permitWords (start .args .permit .now) (rule-none (start .args .image .now) (start .args .request .now) (start .args .permit .now) (if1 .if1 .left) (if2 .if2 .left) (record-of .record-of .result) (record-of .record-of .ensures .0) (c .before .if3 .taken)) (c .word3 .ensures) refl
 
 request-of-requires : tie.Need-request-of-requires
 request-of-requires c κs = search needs
@@ -72,13 +79,29 @@ word-requires-5 : tie.Need-word-requires-5
 word-requires-5 c κs = search needs
 
 returns-4 : tie.Need-returns-4
-returns-4 c = answered (λ p. 0) permitWords (c .before .before .before .before .before .before .before .before .before .before .before .before .before .before .before .args .permit .now) (rule-is (c .before .before .before .before .before .before .before .before .before .before .before .before .before .before .before .args .image .now) (c .before .before .before .before .before .before .before .before .before .before .before .before .before .before .before .args .request .now) (c .before .before .before .before .before .before .before .before .before .before .before .before .before .before .before .args .permit .now) (c .before .before .before .before .before .before .before .before .before .before .before .if1 .left) (c .before .before .before .before .before .before .before .before .before .before .if2 .left) (c .before .before .before .before .before .before .before .before .before .record-of .result) (c .before .before .before .before .before .before .before .before .before .record-of .ensures .0) (c .before .before .before .before .before .before .before .if3 .left) (c .before .before .before .before .before .request-of .ensures) (c .before .before .before .before .rule .ensures) (c .before .before .number .given .1)) (c .word4 .ensures) refl
+returns-4 c =
+    let rule = c .before .before .before .before in
+    let request-of = rule .before in
+    let if3 = request-of .before .before in
+    let record-of = if3 .before .before in
+    let if2 = record-of .before in
+    let if1 = if2 .before in
+    let start = if1 .before .before .before .before in
+    answered (λ p. 0) permitWords (start .args .permit .now) (rule-is (start .args .image .now) (start .args .request .now) (start .args .permit .now) (if1 .if1 .left) (if2 .if2 .left) (record-of .record-of .result) (record-of .record-of .ensures .0) (if3 .if3 .left) (request-of .request-of .ensures) (rule .rule .ensures) (c .before .before .number .given .1)) (c .word4 .ensures) refl
 
 same-length : tie.Need-same-length
 same-length c = search needs
 
 returns-5 : tie.Need-returns-5
-returns-5 c = answered (λ p. 0) permitWords (c .before .before .before .before .before .before .before .before .before .before .before .before .before .before .before .args .permit .now) (rule-is (c .before .before .before .before .before .before .before .before .before .before .before .before .before .before .before .args .image .now) (c .before .before .before .before .before .before .before .before .before .before .before .before .before .before .before .args .request .now) (c .before .before .before .before .before .before .before .before .before .before .before .before .before .before .before .args .permit .now) (c .before .before .before .before .before .before .before .before .before .before .before .if1 .left) (c .before .before .before .before .before .before .before .before .before .before .if2 .left) (c .before .before .before .before .before .before .before .before .before .record-of .result) (c .before .before .before .before .before .before .before .before .before .record-of .ensures .0) (c .before .before .before .before .before .before .before .if3 .left) (c .before .before .before .before .before .request-of .ensures) (c .before .before .before .before .rule .ensures) (c .before .before .hardware .given .1)) (c .word5 .ensures) (permit-stored (c .before .before .before .before .before .before .before .before .before .before .before .before .before .before .before .args .permit .now) _ _ _ _ (c .before .before .before .before .before .before .before .before .before .before .if2 .left))
+returns-5 c =
+    let rule = c .before .before .before .before in
+    let request-of = rule .before in
+    let if3 = request-of .before .before in
+    let record-of = if3 .before .before in
+    let if2 = record-of .before in
+    let if1 = if2 .before in
+    let start = if1 .before .before .before .before in
+    answered (λ p. 0) permitWords (start .args .permit .now) (rule-is (start .args .image .now) (start .args .request .now) (start .args .permit .now) (if1 .if1 .left) (if2 .if2 .left) (record-of .record-of .result) (record-of .record-of .ensures .0) (if3 .if3 .left) (request-of .request-of .ensures) (rule .rule .ensures) (c .before .before .hardware .given .1)) (c .word5 .ensures) (permit-stored (start .args .permit .now) _ _ _ _ (if2 .if2 .left))
 
 pub sculldrip-rule-spec : {M : Type 1} → statement M
 sculldrip-rule-spec =

@@ -32,13 +32,23 @@ same-length : tie.Need-same-length
 same-length c = search needs
 
 returns-2 : tie.Need-returns-2
-returns-2 c = write-is (c .before .before .before .before .before .before .before .before .before .before .before .before .before .before .before .args .image .now) (c .before .before .before .before .before .before .before .before .before .before .before .before .before .before .before .args .buffer .now) (c .before .before .before .before .before .before .before .before .before .before .before .before .before .before .before .args .output .now) (c .before .before .before .before .before .before .before .before .before .before .before .record-of .result) (c .before .before .before .before .before .before .before .before .before .before .before .record-of .ensures .0) (c .before .before .before .before .before .before .before .before .before .if1 .left) (c .before .before .before .before .before .before .write .ensures .0) (c .before .before .before .before .before .before .write .ensures .1) (c .before .before .number .given .1) (c .word2 .ensures)
+returns-2 c =
+    let write = c .before .before .before .before .before .before in
+    let if1 = write .before .before .before in
+    let record-of = if1 .before .before in
+    let start = record-of .before .before .before .before in
+    write-is (start .args .image .now) (start .args .buffer .now) (start .args .output .now) (record-of .record-of .result) (record-of .record-of .ensures .0) (if1 .if1 .left) (write .write .ensures .0) (write .write .ensures .1) (c .before .before .number .given .1) (c .word2 .ensures)
 
 same-length-2 : tie.Need-same-length-2
 same-length-2 c = search needs
 
 returns-3 : tie.Need-returns-3
-returns-3 c = write-is (c .before .before .before .before .before .before .before .before .before .before .before .before .before .before .before .args .image .now) (c .before .before .before .before .before .before .before .before .before .before .before .before .before .before .before .args .buffer .now) (c .before .before .before .before .before .before .before .before .before .before .before .before .before .before .before .args .output .now) (c .before .before .before .before .before .before .before .before .before .before .before .record-of .result) (c .before .before .before .before .before .before .before .before .before .before .before .record-of .ensures .0) (c .before .before .before .before .before .before .before .before .before .if1 .left) (c .before .before .before .before .before .before .write .ensures .0) (c .before .before .before .before .before .before .write .ensures .1) (c .before .before .n .given .1) (c .word3 .ensures)
+returns-3 c =
+    let write = c .before .before .before .before .before .before in
+    let if1 = write .before .before .before in
+    let record-of = if1 .before .before in
+    let start = record-of .before .before .before .before in
+    write-is (start .args .image .now) (start .args .buffer .now) (start .args .output .now) (record-of .record-of .result) (record-of .record-of .ensures .0) (if1 .if1 .left) (write .write .ensures .0) (write .write .ensures .1) (c .before .before .n .given .1) (c .word3 .ensures)
 
 pub sculldrip-write-spec : {M : Type 1} → statement M
 sculldrip-write-spec =

@@ -39,10 +39,14 @@ has-room-requires c κs = search needs
 
 write-header-requires : tie.Need-write-header-requires
 write-header-requires c κs =
-    let length-size = c .before .before .before .before in
+    let has-room = c .before .before in
+    let length-size = has-room .before .before in
     let identifier-size = length-size .before in
-    let start = identifier-size .before .before .before .before .before in
-    (search needs, search needs, enough (now (start .args .out)) (start .args .at) (start .args .form) (start .args .number) (start .args .size) (identifier-size .identifier-size .result) (length-size .length-size .result) (identifier-size .identifier-size .ensures .0) (length-size .length-size .ensures .0) (sym (c .before .if4 .taken) ∙ c .before .before .has-room .ensures))
+    let a = identifier-size .before .before .before .before .before .args in
+    let e = identifier-size .identifier-size .ensures .0 in
+    let e₂ = length-size .length-size .ensures .0 in
+    let room = sym (c .before .if4 .taken) ∙ has-room .has-room .ensures in
+    (search needs, search needs, enough (now (a .out)) (a .at) (a .form) (a .number) (a .size) _ _ e e₂ room)
 
 add-t16 : tie.Need-add-t16
 add-t16 c =
@@ -50,16 +54,30 @@ add-t16 c =
     let has-room = if4 .before in
     let length-size = has-room .before .before in
     let identifier-size = length-size .before in
-    let start = identifier-size .before .before .before .before .before in
-    omega (arith, enough (now (start .args .out)) (start .args .at) (start .args .form) (start .args .number) (start .args .size) (identifier-size .identifier-size .result) (length-size .length-size .result) (identifier-size .identifier-size .ensures .0) (length-size .length-size .ensures .0) (sym (if4 .if4 .taken) ∙ has-room .has-room .ensures), header-octets (now (start .args .out)) (start .args .at) (start .args .form) (start .args .number) (start .args .size) (identifier-size .identifier-size .result) (length-size .length-size .result) (identifier-size .identifier-size .ensures .0) (length-size .length-size .ensures .0))
+    let a = identifier-size .before .before .before .before .before .args in
+    let e = identifier-size .identifier-size .ensures .0 in
+    let e₂ = length-size .length-size .ensures .0 in
+    let room = sym (if4 .if4 .taken) ∙ has-room .has-room .ensures in
+    let fits = enough (now (a .out)) (a .at) (a .form) (a .number) (a .size) _ _ e e₂ room in
+    omega (arith, fits, header-octets (now (a .out)) (a .at) (a .form) (a .number) (a .size) _ _ e e₂)
 
 same-length : tie.Need-same-length
 same-length c = search needs
 
 returns-4 : tie.Need-returns-4
 returns-4 c =
-    let a = c .before .before .before .before .before .before .before .before .before .before .before .before .before .args in
-    let e = space (now (c .before .before .before .before .before .before .before .before .before .before .before .before .before .args .out)) (c .before .before .before .before .before .before .before .before .before .before .before .before .before .args .at) (c .before .before .before .before .before .before .before .before .before .before .before .before .before .args .form) (c .before .before .before .before .before .before .before .before .before .before .before .before .before .args .number) (c .before .before .before .before .before .before .before .before .before .before .before .before .before .args .size) (c .before .before .before .before .before .before .before .before .identifier-size .result) (c .before .before .before .before .before .before .before .length-size .result) (c .before .before .before .before .before .before .before .before .identifier-size .ensures .0) (c .before .before .before .before .before .before .before .length-size .ensures .0) (c .before .before .before .before .before .before .before .before .before .before .before .if1 .left) (c .before .before .before .before .before .before .before .before .before .before .if2 .left) (c .before .before .before .before .before .before .before .before .before .if3 .left) (sym (c .before .before .before .before .if4 .taken) ∙ c .before .before .before .before .before .has-room .ensures) in
+    let if4 = c .before .before .before .before in
+    let has-room = if4 .before in
+    let length-size = has-room .before .before in
+    let identifier-size = length-size .before in
+    let if3 = identifier-size .before in
+    let if2 = if3 .before in
+    let if1 = if2 .before in
+    let a = if1 .before .before .args in
+    let e₁ = identifier-size .identifier-size .ensures .0 in
+    let e₂ = length-size .length-size .ensures .0 in
+    let room = sym (if4 .if4 .taken) ∙ has-room .has-room .ensures in
+    let e = space (now (a .out)) (a .at) (a .form) (a .number) (a .size) _ _ e₁ e₂ (if1 .if1 .left) (if2 .if2 .left) (if3 .if3 .left) room in
     (sym e, wrote _ _ (now (a .out)) _ (a .at) _ e (c .before .before .write-header .ensures))
 
 same-length-2 : tie.Need-same-length-2
@@ -67,8 +85,17 @@ same-length-2 c = search needs
 
 returns-5 : tie.Need-returns-5
 returns-5 c =
-    let a = c .before .before .before .before .before .before .before .before .before .args in
-    let e = no-space (now (a .out)) (a .at) (a .form) (a .number) (a .size) (c .before .before .before .before .identifier-size .result) (c .before .before .before .length-size .result) (c .before .before .before .before .identifier-size .ensures .0) (c .before .before .before .length-size .ensures .0) (c .before .before .before .before .before .before .before .if1 .left) (c .before .before .before .before .before .before .if2 .left) (c .before .before .before .before .before .if3 .left) (sym (c .if4 .left) ∙ c .before .has-room .ensures) in
+    let has-room = c .before in
+    let length-size = has-room .before .before in
+    let identifier-size = length-size .before in
+    let if3 = identifier-size .before in
+    let if2 = if3 .before in
+    let if1 = if2 .before in
+    let a = if1 .before .before .args in
+    let e₁ = identifier-size .identifier-size .ensures .0 in
+    let e₂ = length-size .length-size .ensures .0 in
+    let room = sym (c .if4 .left) ∙ has-room .has-room .ensures in
+    let e = no-space (now (a .out)) (a .at) (a .form) (a .number) (a .size) _ _ e₁ e₂ (if1 .if1 .left) (if2 .if2 .left) (if3 .if3 .left) room in
     (sym e, kept _ _ _ (now (a .out)) (a .at) _ e)
 
 pub put-header-spec : {M : Type 1} → statement M

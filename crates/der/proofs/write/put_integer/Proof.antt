@@ -22,7 +22,12 @@ write-integer-requires : tie.Need-write-integer-requires
 write-integer-requires c κs = (c .before .before .before .before .integer-size .ensures .0, c .before .before .before .before .integer-size .ensures .1, has-space _ _ _ (sym (c .before .if1 .taken) ∙ c .before .before .has-room .ensures))
 
 add-t12 : tie.Need-add-t12
-add-t12 c = omega (arith, has-space (c .before .before .before .before .before .before .before .before .before .args .at) (2 + c .before .before .before .before .before .before .before .integer-size .result) (length (now (c .before .before .before .before .before .before .before .before .before .args .out))) (sym (c .before .before .before .before .if1 .taken) ∙ c .before .before .before .before .before .has-room .ensures))
+add-t12 c =
+    let if1 = c .before .before .before .before in
+    let has-room = if1 .before in
+    let integer-size = has-room .before .before in
+    let start = integer-size .before .before in
+    omega (arith, has-space (start .args .at) (2 + integer-size .integer-size .result) (length (now (start .args .out))) (sym (if1 .if1 .taken) ∙ has-room .has-room .ensures))
 
 same-length : tie.Need-same-length
 same-length c = search needs

@@ -15,7 +15,10 @@ add-put-length : tie.Need-add-put-length
 add-put-length c = search needs
 
 put-length-requires : tie.Need-put-length-requires
-put-length-requires c κs = header-second (now (c .before .before .before .before .before .before .before .args .out)) (c .before .before .before .before .before .before .before .args .at) (c .before .before .before .before .before .before .before .args .form) (c .before .before .before .before .before .before .before .args .number) (c .before .before .before .before .before .before .before .args .size) (c .before .before .before .before .before .before .before .pre .2) (c .before .before .before .before .put-identifier .last .0) (c .identifier-size .result) (c .before .before .before .before .put-identifier .kept .0) (c .identifier-size .ensures .0)
+put-length-requires c κs =
+    let put-identifier = c .before .before .before .before in
+    let start = put-identifier .before .before .before in
+    header-second (now (start .args .out)) (start .args .at) (start .args .form) (start .args .number) (start .args .size) (start .pre .2) (put-identifier .put-identifier .last .0) (c .identifier-size .result) (put-identifier .put-identifier .kept .0) (c .identifier-size .ensures .0)
 
 same-length : tie.Need-same-length
 same-length c = search needs

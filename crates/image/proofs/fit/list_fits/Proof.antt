@@ -46,7 +46,14 @@ set-fits-requires-2 : tie.Need-set-fits-requires-2
 set-fits-requires-2 c κs = search needs
 
 returns-3 : tie.Need-returns-3
-returns-3 c = let w = c .before .before .before .before .before .before .before .before .before .before .before .args .words .now in digest-bad w (c .before .before .before .before .before .before .before .before .before .flags-fit .ensures) (c .before .before .before .before .before .before .before .before .if1 .left) (from-drop (setFits (getD w 0 0)) w 126 (c .before .before .before .before .before .set-fits .ensures)) (c .before .before .before .before .if2 .left) (from-drop (setFits (getD w 3 0)) w 143 (c .before .set-fits2 .ensures)) (c .if3 .taken)
+returns-3 c =
+    let if2 = c .before .before .before .before in
+    let set-fits = if2 .before in
+    let if1 = set-fits .before .before .before in
+    let flags-fit = if1 .before in
+    let start = flags-fit .before .before in
+    let w = start .args .words .now in
+    digest-bad w (flags-fit .flags-fit .ensures) (if1 .if1 .left) (from-drop (setFits (getD w 0 0)) w 126 (set-fits .set-fits .ensures)) (if2 .if2 .left) (from-drop (setFits (getD w 3 0)) w 143 (c .before .set-fits2 .ensures)) (c .if3 .taken)
 
 shared-slice-read-set-fits-3 : tie.Need-shared-slice-read-set-fits-3
 shared-slice-read-set-fits-3 c = search needs
@@ -64,7 +71,16 @@ set-fits-requires-3 : tie.Need-set-fits-requires-3
 set-fits-requires-3 c κs = search needs
 
 returns-4 : tie.Need-returns-4
-returns-4 c = let w = c .before .before .before .before .before .before .before .before .before .before .before .before .before .before .before .args .words .now in padding-bad w (c .before .before .before .before .before .before .before .before .before .before .before .before .before .flags-fit .ensures) (c .before .before .before .before .before .before .before .before .before .before .before .before .if1 .left) (from-drop (setFits (getD w 0 0)) w 126 (c .before .before .before .before .before .before .before .before .before .set-fits .ensures)) (c .before .before .before .before .before .before .before .before .if2 .left) (from-drop (setFits (getD w 3 0)) w 143 (c .before .before .before .before .before .set-fits2 .ensures)) (c .before .before .before .before .if3 .left) (from-drop (setFits (getD w 4 0)) w 160 (c .before .set-fits3 .ensures)) (c .if4 .taken)
+returns-4 c =
+    let if3 = c .before .before .before .before in
+    let set-fits2 = if3 .before in
+    let if2 = set-fits2 .before .before .before in
+    let set-fits = if2 .before in
+    let if1 = set-fits .before .before .before in
+    let flags-fit = if1 .before in
+    let start = flags-fit .before .before in
+    let w = start .args .words .now in
+    padding-bad w (flags-fit .flags-fit .ensures) (if1 .if1 .left) (from-drop (setFits (getD w 0 0)) w 126 (set-fits .set-fits .ensures)) (if2 .if2 .left) (from-drop (setFits (getD w 3 0)) w 143 (set-fits2 .set-fits2 .ensures)) (if3 .if3 .left) (from-drop (setFits (getD w 4 0)) w 160 (c .before .set-fits3 .ensures)) (c .if4 .taken)
 
 shared-slice-read-set-fits-4 : tie.Need-shared-slice-read-set-fits-4
 shared-slice-read-set-fits-4 c = search needs
@@ -82,7 +98,18 @@ set-fits-requires-4 : tie.Need-set-fits-requires-4
 set-fits-requires-4 c κs = search needs
 
 returns-5 : tie.Need-returns-5
-returns-5 c = let w = c .before .before .before .before .before .before .before .before .before .before .before .before .before .before .before .before .before .before .before .args .words .now in mgf-bad w (c .before .before .before .before .before .before .before .before .before .before .before .before .before .before .before .before .before .flags-fit .ensures) (c .before .before .before .before .before .before .before .before .before .before .before .before .before .before .before .before .if1 .left) (from-drop (setFits (getD w 0 0)) w 126 (c .before .before .before .before .before .before .before .before .before .before .before .before .before .set-fits .ensures)) (c .before .before .before .before .before .before .before .before .before .before .before .before .if2 .left) (from-drop (setFits (getD w 3 0)) w 143 (c .before .before .before .before .before .before .before .before .before .set-fits2 .ensures)) (c .before .before .before .before .before .before .before .before .if3 .left) (from-drop (setFits (getD w 4 0)) w 160 (c .before .before .before .before .before .set-fits3 .ensures)) (c .before .before .before .before .if4 .left) (from-drop (setFits (getD w 7 0)) w 177 (c .before .set-fits4 .ensures)) (c .if5 .taken)
+returns-5 c =
+    let if4 = c .before .before .before .before in
+    let set-fits3 = if4 .before in
+    let if3 = set-fits3 .before .before .before in
+    let set-fits2 = if3 .before in
+    let if2 = set-fits2 .before .before .before in
+    let set-fits = if2 .before in
+    let if1 = set-fits .before .before .before in
+    let flags-fit = if1 .before in
+    let start = flags-fit .before .before in
+    let w = start .args .words .now in
+    mgf-bad w (flags-fit .flags-fit .ensures) (if1 .if1 .left) (from-drop (setFits (getD w 0 0)) w 126 (set-fits .set-fits .ensures)) (if2 .if2 .left) (from-drop (setFits (getD w 3 0)) w 143 (set-fits2 .set-fits2 .ensures)) (if3 .if3 .left) (from-drop (setFits (getD w 4 0)) w 160 (set-fits3 .set-fits3 .ensures)) (if4 .if4 .left) (from-drop (setFits (getD w 7 0)) w 177 (c .before .set-fits4 .ensures)) (c .if5 .taken)
 
 shared-slice-read-root-fits : tie.Need-shared-slice-read-root-fits
 shared-slice-read-root-fits c = search needs
@@ -100,7 +127,20 @@ root-fits-requires : tie.Need-root-fits-requires
 root-fits-requires c κs = search needs
 
 returns-6 : tie.Need-returns-6
-returns-6 c = let w = c .before .before .before .before .before .before .before .before .before .before .before .before .before .before .before .before .before .before .before .before .before .before .args .words .now in list-rest w (c .before .before .before .before .before .before .before .before .before .before .before .before .before .before .before .before .before .before .before .before .flags-fit .ensures) (c .before .before .before .before .before .before .before .before .before .before .before .before .before .before .before .before .before .before .before .if1 .left) (from-drop (setFits (getD w 0 0)) w 126 (c .before .before .before .before .before .before .before .before .before .before .before .before .before .before .before .before .set-fits .ensures)) (c .before .before .before .before .before .before .before .before .before .before .before .before .before .before .before .if2 .left) (from-drop (setFits (getD w 3 0)) w 143 (c .before .before .before .before .before .before .before .before .before .before .before .before .set-fits2 .ensures)) (c .before .before .before .before .before .before .before .before .before .before .before .if3 .left) (from-drop (setFits (getD w 4 0)) w 160 (c .before .before .before .before .before .before .before .before .set-fits3 .ensures)) (c .before .before .before .before .before .before .before .if4 .left) (from-drop (setFits (getD w 7 0)) w 177 (c .before .before .before .before .set-fits4 .ensures)) (c .before .before .before .if5 .left) (from-drop (rootFits (getD w 26 0)) w 194 (c .root-fits .ensures))
+returns-6 c =
+    let if5 = c .before .before .before in
+    let set-fits4 = if5 .before in
+    let if4 = set-fits4 .before .before .before in
+    let set-fits3 = if4 .before in
+    let if3 = set-fits3 .before .before .before in
+    let set-fits2 = if3 .before in
+    let if2 = set-fits2 .before .before .before in
+    let set-fits = if2 .before in
+    let if1 = set-fits .before .before .before in
+    let flags-fit = if1 .before in
+    let start = flags-fit .before .before in
+    let w = start .args .words .now in
+    list-rest w (flags-fit .flags-fit .ensures) (if1 .if1 .left) (from-drop (setFits (getD w 0 0)) w 126 (set-fits .set-fits .ensures)) (if2 .if2 .left) (from-drop (setFits (getD w 3 0)) w 143 (set-fits2 .set-fits2 .ensures)) (if3 .if3 .left) (from-drop (setFits (getD w 4 0)) w 160 (set-fits3 .set-fits3 .ensures)) (if4 .if4 .left) (from-drop (setFits (getD w 7 0)) w 177 (set-fits4 .set-fits4 .ensures)) (if5 .if5 .left) (from-drop (rootFits (getD w 26 0)) w 194 (c .root-fits .ensures))
 
 pub list-fits-spec : {M : Type 1} → statement M
 list-fits-spec =

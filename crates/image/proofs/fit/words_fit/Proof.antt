@@ -39,7 +39,13 @@ list-fits-requires-2 : tie.Need-list-fits-requires-2
 list-fits-requires-2 c κs = search needs
 
 returns-3 : tie.Need-returns-3
-returns-3 c = let w = c .before .before .before .before .before .before .before .before .args .image .now in words-rest w (c .before .before .before .before .before .before .narrow .ensures) (c .before .before .before .before .before .if1 .left) (from-drop listFits w 8 (c .before .before .before .list-fits .ensures)) (c .before .before .if2 .left) (from-drop listFits w 209 (c .list-fits2 .ensures))
+returns-3 c =
+    let list-fits = c .before .before .before in
+    let if1 = list-fits .before .before in
+    let narrow = if1 .before in
+    let start = narrow .before .before in
+    let w = start .args .image .now in
+    words-rest w (narrow .narrow .ensures) (if1 .if1 .left) (from-drop listFits w 8 (list-fits .list-fits .ensures)) (c .before .before .if2 .left) (from-drop listFits w 209 (c .list-fits2 .ensures))
 
 pub words-fit-spec : {M : Type 1} → statement M
 words-fit-spec =

@@ -45,10 +45,25 @@ enum-known-last-2 : tie.Need-enum-known-last-2
 enum-known-last-2 c = search needs
 
 returns : tie.Need-returns
-returns c = (search (eight-no, eight-no-software, eight-no-hardware), (refused-inside (c .before .before .before .before .before .before .args .at) (c .before .before .before .before .before .before .args .end) _ _ _ (c .refused-eight .ensures), refused-eight-in _ _ _ (c .refused-eight .result) (c .refused-eight .ensures)))
+returns c =
+    let a = c .before .before .before .before .before .before .args in
+    let no = c .refused-eight in
+    let inside = refused-inside (a .at) (a .end) _ _ _ (no .ensures) in
+    (search (eight-no, eight-no-software, eight-no-hardware), (inside, refused-eight-in _ _ _ (no .result) (no .ensures)))
 
 returns-2 : tie.Need-returns-2
-returns-2 c = (search (eight-no, eight-no-software, eight-no-hardware), (refused-inside (c .before .before .before .before .before .before .before .before .before .before .before .args .at) (c .before .before .before .before .before .before .before .before .before .before .before .args .end) _ _ _ (c .refused-eight2 .ensures), refused-eight-in _ _ _ (c .refused-eight2 .result) (c .refused-eight2 .ensures)))
+returns-2 c =
+    let read-list = c .before .before .before .before .before in
+    let attestation = read-list .before .before in
+    let read-head = attestation .before .before in
+    let a = read-head .before .before .args in
+    let head = read-head .read-head in
+    let first = read-list .read-list in
+    let no = c .refused-eight2 in
+    let no-list = eight-no-software (now (a .s)) (a .at) (a .end) (head .result) (head .ensures .0) _ _ _ _ _ (attestation .attestation .given .1) in
+    let is = no-list (first .result .step) (first .result .list) (first .ensures .0) _ _ (no .result) (c .before .before .after .given .1) (no .ensures) in
+    let inside = refused-inside (a .at) (a .end) _ _ _ (no .ensures) in
+    (is, (inside, refused-eight-in _ _ _ (no .result) (no .ensures)))
 
 returns-3 : tie.Need-returns-3
 returns-3 c =
@@ -57,8 +72,16 @@ returns-3 c =
     let read-list = after2 .before .before .before in
     let attestation = read-list .before .before in
     let read-head = attestation .before .before in
-    let start = read-head .before .before in
-    (eight-no-hardware (now (start .args .s)) (start .args .at) (start .args .end) (read-head .read-head .result) (read-head .read-head .ensures .0) _ _ _ _ _ (attestation .attestation .given .1) (read-list .read-list .result .step) (read-list .read-list .result .list) (read-list .read-list .ensures .0) _ (after2 .after2 .given .1) (read-list2 .read-list2 .result .step) (read-list2 .read-list2 .result .list) (read-list2 .read-list2 .ensures .0) _ _ (c .refused-eight3 .result) (c .before .before .last .given .1) (c .refused-eight3 .ensures), (refused-inside (start .args .at) (start .args .end) _ _ _ (c .refused-eight3 .ensures), refused-eight-in _ _ _ (c .refused-eight3 .result) (c .refused-eight3 .ensures)))
+    let a = read-head .before .before .args in
+    let head = read-head .read-head in
+    let first = read-list .read-list in
+    let second = read-list2 .read-list2 in
+    let no = c .refused-eight3 in
+    let no-list = eight-no-hardware (now (a .s)) (a .at) (a .end) (head .result) (head .ensures .0) _ _ _ _ _ (attestation .attestation .given .1) in
+    let in-second = no-list (first .result .step) (first .result .list) (first .ensures .0) _ (after2 .after2 .given .1) in
+    let is = in-second (second .result .step) (second .result .list) (second .ensures .0) _ _ (no .result) (c .before .before .last .given .1) (no .ensures) in
+    let inside = refused-inside (a .at) (a .end) _ _ _ (no .ensures) in
+    (is, (inside, refused-eight-in _ _ _ (no .result) (no .ensures)))
 
 returns-4 : tie.Need-returns-4
 returns-4 c =
@@ -68,7 +91,20 @@ returns-4 c =
     let attestation = read-list .before .before in
     let read-head = attestation .before .before in
     let start = read-head .before .before in
-    (eight-is (now (start .args .s)) (start .args .at) (start .args .end) (read-head .read-head .result) (read-head .read-head .ensures .0) _ _ _ _ _ (attestation .attestation .given .1) (read-list .read-list .result .step) (read-list .read-list .result .list) (read-list .read-list .ensures .0) _ (after2 .after2 .given .1) (read-list2 .read-list2 .result .step) (read-list2 .read-list2 .result .list) (read-list2 .read-list2 .ensures .0) _ (c .before .last2 .given .1), (omega (arith, head-inside (start .args .at) (start .args .end) _ _ _ _ _ _ (read-head .read-head .ensures .1) (attestation .attestation .given .1), step-in (attestation .attestation .given .0 .1 .1 .1 .1 .0) (start .args .end) _ _ (read-list .read-list .ensures .1 .0) (after2 .after2 .given .1), step-in (after2 .after2 .given .0 .0) (start .args .end) _ _ (read-list2 .read-list2 .ensures .1 .0) (c .before .last2 .given .1)), eight-in _ (start .args .at) (start .args .end) (read-head .read-head .result) _ _ _ _ _ _ _ (start .pre) (read-head .read-head .ensures .1) (attestation .attestation .given .1) (read-list .read-list .ensures .1 .1) (read-list2 .read-list2 .ensures .1 .1)))
+    let a = start .args in
+    let head = read-head .read-head in
+    let first = read-list .read-list in
+    let second = read-list2 .read-list2 in
+    let is-head = attestation .attestation .given in
+    let is-first = after2 .after2 .given in
+    let is-last = c .before .last2 .given in
+    let lists = eight-is (now (a .s)) (a .at) (a .end) (head .result) (head .ensures .0) _ _ _ _ _ (is-head .1) in
+    let second-list = lists (first .result .step) (first .result .list) (first .ensures .0) _ (is-first .1) in
+    let is = second-list (second .result .step) (second .result .list) (second .ensures .0) _ (is-last .1) in
+    let next = head-inside (a .at) (a .end) _ _ _ _ _ _ (head .ensures .1) (is-head .1) in
+    let middle = step-in (is-head .0 .1 .1 .1 .1 .0) (a .end) _ _ (first .ensures .1 .0) (is-first .1) in
+    let stop = step-in (is-first .0 .0) (a .end) _ _ (second .ensures .1 .0) (is-last .1) in
+    (is, (omega (arith, next, middle, stop), eight-in _ (a .at) (a .end) (head .result) _ _ _ _ _ _ _ (start .pre) (head .ensures .1) (is-head .1) (first .ensures .1 .1) (second .ensures .1 .1)))
 
 pub read-eight-spec : {M : Type 1} → statement M
 read-eight-spec =

@@ -23,13 +23,17 @@ shared-slice-read-x : tie.Need-shared-slice-read-x Inv-loop μ-loop
 shared-slice-read-x c = search needs
 
 mul-value : tie.Need-mul-value Inv-loop μ-loop
-mul-value c = omega (arith, spelled-fits (now (c .before .before .before .args .s)) (c .shared-slice-known .given) (c .before .before .before .args .at) (c .before .before .before .args .end) (c .before .before .loop .i) (c .before .before .loop .value) (c .before .before .loop .inv .0) (c .before .loop-test .taken) (c .before .before .before .pre .2) (c .before .before .before .pre .1) (c .before .before .loop .inv .2))
+mul-value c =
+    let start = c .before .before .before in
+    omega (arith, spelled-fits (now (start .args .s)) (c .shared-slice-known .given) (start .args .at) (start .args .end) (c .before .before .loop .i) (c .before .before .loop .value) (c .before .before .loop .inv .0) (c .before .loop-test .taken) (start .pre .2) (start .pre .1) (c .before .before .loop .inv .2))
 
 cast-value : tie.Need-cast-value Inv-loop μ-loop
 cast-value c = omega (arith, c .shared-slice-known .given (c .before .before .loop .i))
 
 add-value : tie.Need-add-value Inv-loop μ-loop
-add-value c = omega (arith, spelled-fits (now (c .before .before .before .args .s)) (c .shared-slice-known .given) (c .before .before .before .args .at) (c .before .before .before .args .end) (c .before .before .loop .i) (c .before .before .loop .value) (c .before .before .loop .inv .0) (c .before .loop-test .taken) (c .before .before .before .pre .2) (c .before .before .before .pre .1) (c .before .before .loop .inv .2), c .shared-slice-known .given (c .before .before .loop .i))
+add-value c =
+    let start = c .before .before .before in
+    omega (arith, spelled-fits (now (start .args .s)) (c .shared-slice-known .given) (start .args .at) (start .args .end) (c .before .before .loop .i) (c .before .before .loop .value) (c .before .before .loop .inv .0) (c .before .loop-test .taken) (start .pre .2) (start .pre .1) (c .before .before .loop .inv .2), c .shared-slice-known .given (c .before .before .loop .i))
 
 add-i : tie.Need-add-i Inv-loop μ-loop
 add-i c = search needs

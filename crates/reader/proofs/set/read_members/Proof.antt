@@ -39,7 +39,11 @@ returns-3 : tie.Need-returns-3 Inv-loop μ-loop
 returns-3 c = (search gathered-order, (tt, tt))
 
 cast-set : tie.Need-cast-set Inv-loop μ-loop
-cast-set c = omega (arith, number-small (now (c .before .before .before .before .before .before .before .before .before .before .args .s)) (c .before .before .before .before .before .before .before .loop .place) (c .before .before .before .before .before .before .before .before .before .before .args .end) 2 0xffff_ffff _ _ _ (c .before .before .before .before .read-number .ensures .0) (c .before .before .x .given .1))
+cast-set c =
+    let read-number = c .before .before .before .before in
+    let loop = read-number .before .before .before in
+    let start = loop .before .before .before in
+    omega (arith, number-small (now (start .args .s)) (loop .loop .place) (start .args .end) 2 0xffff_ffff _ _ _ (read-number .read-number .ensures .0) (c .before .before .x .given .1))
 
 mul-set : tie.Need-mul-set Inv-loop μ-loop
 mul-set c = search needs
@@ -48,7 +52,11 @@ element-write-set : tie.Need-element-write-set Inv-loop μ-loop
 element-write-set c = search needs
 
 add-low : tie.Need-add-low Inv-loop μ-loop
-add-low c = omega (arith, number-small (now (c .before .before .before .before .before .before .before .before .before .before .args .s)) (c .before .before .before .before .before .before .before .loop .place) (c .before .before .before .before .before .before .before .before .before .before .args .end) 2 0xffff_ffff _ _ _ (c .before .before .before .before .read-number .ensures .0) (c .before .before .x .given .1))
+add-low c =
+    let read-number = c .before .before .before .before in
+    let loop = read-number .before .before .before in
+    let start = loop .before .before .before in
+    omega (arith, number-small (now (start .args .s)) (loop .loop .place) (start .args .end) 2 0xffff_ffff _ _ _ (read-number .read-number .ensures .0) (c .before .before .x .given .1))
 
 add-n : tie.Need-add-n Inv-loop μ-loop
 add-n c = search needs

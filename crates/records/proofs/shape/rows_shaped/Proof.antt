@@ -49,7 +49,14 @@ loop-less : tie.Need-loop-less Inv-loop μ-loop
 loop-less c = search needs
 
 loop-again : tie.Need-loop-again Inv-loop μ-loop
-loop-again c = row-good _ _ _ (c .before .before .before .before .before .before .before .before .before .loop .inv) (c .before .before .before .before .before .before .before .before .loop-test .taken) (c .before .before .before .before .before .before .if1 .taken) (c .before .before .before .before .before .row-at .result) (c .before .before .before .before .before .row-at .ensures) (c .before .before .before .before .held .result) (c .before .before .before .before .held .ensures) (c .before .before .before .if2 .left) (c .before .plain-shaped .result) (c .before .plain-shaped .ensures) (c .if3 .left)
+loop-again c =
+    let if2 = c .before .before .before in
+    let held = if2 .before in
+    let row-at = held .before in
+    let if1 = row-at .before in
+    let loop-test = if1 .before .before in
+    let loop = loop-test .before in
+    row-good _ _ _ (loop .loop .inv) (loop-test .loop-test .taken) (if1 .if1 .taken) (row-at .row-at .result) (row-at .row-at .ensures) (held .held .result) (held .held .ensures) (if2 .if2 .left) (c .before .plain-shaped .result) (c .before .plain-shaped .ensures) (c .if3 .left)
 
 add-k-2 : tie.Need-add-k-2 Inv-loop μ-loop
 add-k-2 c = search needs
