@@ -1,5 +1,3 @@
 pub mod Bits
 pub mod Headers
 pub mod Elements
-pub mod Sizes
-pub mod Writes

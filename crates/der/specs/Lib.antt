@@ -1,3 +1,2 @@
 pub mod Header
 pub mod Walk
-pub mod Write

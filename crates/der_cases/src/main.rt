@@ -7,7 +7,7 @@
 // i: output length, place and number: what put_integer answers and leaves.
 use der::walk::Limits;
 use der::walk::Walked;
-use der::write::Put;
+use der_write::Put;
 use libc::STDOUT_FILENO;
 ghost use Prim.Native.Nat.{_+_, _<_, _≤_};
 
@@ -115,7 +115,7 @@ fn header_case(s: &[u8], at: usize) -> usize
     let form = (word(s, at + 16) % 256) as u8;
     let number = word(s, at + 24) as usize;
     let size = word(s, at + 32) as usize;
-    let answer = der::write::put_header(&mut out[..n], place, form, number, size);
+    let answer = der_write::put_header(&mut out[..n], place, form, number, size);
     say_written(answer, &out);
     say(b"\n");
     at + 40
@@ -128,7 +128,7 @@ fn integer_case(s: &[u8], at: usize) -> usize
     let mut out = [0xeeu8; 16];
     let n = (word(s, at) % 17) as usize;
     let place = word(s, at + 8) as usize;
-    let answer = der::write::put_integer(&mut out[..n], place, word(s, at + 16));
+    let answer = der_write::put_integer(&mut out[..n], place, word(s, at + 16));
     say_written(answer, &out);
     say(b"\n");
     at + 24

@@ -11,8 +11,8 @@ use Rattle.codec.specs.Tree.{nodes, run, walkElement, firstPass}
 use Rattle.schema.specs.Table.{rows, knownVersion, heldIn, find, levelTop}
 use Rattle.schema.specs.Decode.{readInteger, readEnumerated, readOctets, nullOf, readNull, readMember, readSet, readValue, rowContent, fieldContent, readField, readList, readVersion, readEight, decodeWith, readWith, read}
 use Rattle.ruling.specs.declared.request.Request.{Request}
-use Rattle.ruling.specs.Rules.{there, allows, member}
-use Rattle.ruling.specs.Checks.{knownPurpose, purposeRefused, agreed, algorithmFits, paddingFits, paddingRefused, looksAtDigest, digestFits, digestRefused, digestBytes, keySizeRefused, signs, clockRefused, activeRefused, expiryRefused, authMissing, tokenRefused, freshRefused, usesRefused}
+use Rattle.checks.specs.Tags.{there, allows, member}
+use Rattle.checks.specs.Checks.{knownPurpose, purposeRefused, agreed, algorithmFits, paddingFits, paddingRefused, looksAtDigest, digestFits, digestRefused, digestBytes, keySizeRefused, signs, clockRefused, activeRefused, expiryRefused, authMissing, tokenRefused, freshRefused, usesRefused}
 use Rattle.ruling.specs.Ruling.{firstRefusing, shapeChecks, dateChecks, tokenChecks, deviceChecks, heldTags, looked, bit, markOf, permit, permitOf, unless, ruled, Permit}
 use Rattle.listing.specs.Text.{digits, decimal, hexDigit, hexPair, hexText, octetsText, moreNumbers, numbersText, valueText, named, numbersLine, octetsLine, fieldLine, fieldLines, countLine, headText, contentText, listing}
 use Rattle.marked_cases.specs.Cases.{Use, Ruled, Sized, Holds, Every, extension, text, sign, permitted, cases, MarkedCases}

@@ -28,7 +28,8 @@ use Rattle.records.specs.declared.Record.{Record}
 use Rattle.reader.specs.Reading.{Reads}
 use Rattle.reader.specs.declared.Outcome.{Outcome}
 use Rattle.records.specs.Empty.{emptySet, emptyRoot}
-use Rattle.ruling.specs.Rules.{numberIn, setIn, there, Rules, rulesOf}
+use Rattle.checks.specs.Tags.{there}
+use Rattle.ruling.specs.Rules.{numberIn, setIn, Rules, rulesOf}
 use Rattle.ruling.specs.Ruling.{ruled, ruling}
 use Rattle.ruling.specs.declared.request.Request.{Request}
 use Rattle.ruling.proofs.Permitted.{well-shaped-is-ruled}

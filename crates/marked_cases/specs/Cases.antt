@@ -11,7 +11,7 @@ use Rattle.records.specs.declared.Record.{Record}
 use Rattle.reader.specs.declared.Outcome.{Outcome}
 use Rattle.reader.specs.Reading.{Reads}
 use Rattle.ruling.specs.declared.request.Request.{Request}
-use Rattle.ruling.specs.Checks.{keySizeRefused}
+use Rattle.checks.specs.Checks.{keySizeRefused}
 use Rattle.ruling.specs.Ruling.{Permit, firstRefusing, unless, ruling}
 use Rattle.listing.specs.Text.{listing}
 

@@ -7,8 +7,8 @@ use crate::say::say;
 use crate::say::say_number;
 use crate::say::say_refused;
 use enrolment::Enrolment;
+use octet_fields::Asked;
 use records::Record;
-use records::octets::Asked;
 use ruling::Ruling;
 use ruling::request::Request;
 use ruling::request::Token;
@@ -97,7 +97,7 @@ pub(crate) fn say_octets(r: Record, s: &[u8], at: usize)
 {
     let number = word(s, at + 8) as usize;
     let len = word(s, at + 16) as usize;
-    match records::octets::ask_octets(r, flag(s, at), number, len) {
+    match octet_fields::ask_octets(r, flag(s, at), number, len) {
         Asked::At(start, size) => {
             say(b"part ");
             say_number(start as u64);

@@ -1,11 +1,6 @@
 pub mod Rowwise
 pub mod Fields
-pub mod Buffer
-pub mod Asking
-pub mod OctetFields
-pub mod PartOctets
 pub mod Placed
-pub mod Shapes
 pub mod ShapedContent
 pub mod ContentShaped
 pub mod Equal

@@ -1,25 +1,19 @@
--- What is proved of records. Read EqualContents and MadeSays first. proofs/Stated.antt and
--- OctetFields.antt have the theorem of the same name.
+-- What is proved of records. Read EqualContents and MadeSays first. proofs/Stated.antt has the theorem of the same name.
 use mathlib.Core.Logic.{_↔_}
 use mathlib.Core.Path.{_≡_}
-use mathlib.Core.Bool.{Bool}
-use mathlib.Core.Option.{none, some}
 use mathlib.Core.List.{List}
-use Prim.Native.Nat.{ℕ, _+_, _<_, _≤_}
+use Prim.Native.Nat.{ℕ, _+_, _≤_}
 use lib.ListN.{length}
 use lib.Dec.{T}
-use Rattle.answer.specs.Answer.{got, refused}
-use Rattle.answer.specs.Refusal.{illShaped}
+use Rattle.answer.specs.Answer.{got}
 use Rattle.codec.specs.Octets.{Octets}
-use Rattle.schema.specs.Content.{oct, Place, placeAt, Places, wellShaped}
+use Rattle.schema.specs.Content.{Places, wellShaped}
 use Rattle.schema.specs.Parts.{EachPart}
 use Rattle.schema.specs.Decode.{read, readPlaces}
-use Rattle.records.specs.Content.{fieldsOf, contentOf, placesOf}
-use Rattle.records.specs.Fields.{fieldValue}
+use Rattle.records.specs.Content.{contentOf, placesOf}
 use Rattle.records.specs.Slots.{InSlots}
 use Rattle.records.specs.Shape.{wellShapedRecord}
 use Rattle.records.specs.Parts.{partsInside}
-use Rattle.records.specs.Asked.{listOf, askedOctets}
 use Rattle.records.specs.Equal.{Equal}
 use Rattle.records.specs.Made.{recordMade}
 use Rattle.records.specs.declared.Record.{Record}
@@ -46,15 +40,3 @@ MadeSays = (c : Places) → T (wellShaped c) → placesOf (recordMade c) ≡ c
 -- places that lie in n octets are parts inside them
 abbrev pub PartsLie : Type 0
 PartsLie = (n : ℕ) (r : Record) → EachPart (λ p. p .start + p .len ≤ n) (placesOf r) → T (partsInside r n)
-
--- what asking for an octet field answers
-pub record AskedMeans (r : Record) (hardware : Bool) (number len : ℕ) : Type 0 where
-  -- "handed back as the very part .. that holds it": where the list has octets under the number, just their place
-  pub part : (a z : ℕ) → (askedOctets r hardware number len ≡ got (some (a, z))) ↔ (fieldValue (fieldsOf (listOf r hardware) placeAt) number ≡ some (oct (placeAt a z))) × (a + z ≤ len)
-  -- "asking for an absent one, or for a number that is no octet field, says absent"
-  pub absent : (askedOctets r hardware number len ≡ got none) ↔ ((p : Place) → fieldValue (fieldsOf (listOf r hardware) placeAt) number ≡ some (oct p) → ⊥)
-  -- "a part outside the lent bytes gives 20"
-  pub outside : (askedOctets r hardware number len ≡ refused illShaped 0) ↔ ((p : Place) × (fieldValue (fieldsOf (listOf r hardware) placeAt) number ≡ some (oct p)) × (len < p .start + p .len))
-
-abbrev pub AskedExactly : Type 0
-AskedExactly = (r : Record) (hardware : Bool) (number len : ℕ) → AskedMeans r hardware number len

@@ -12,7 +12,7 @@ use lib.ListN.{length, drop, getD, length-drop, drop-of-length-le}
 use lib.Pow.{pow-mono}
 use lib.Seq.{drop-cons}
 use Rattle.answer.specs.Answer.{Answer, got, pick}
-use Rattle.ruling.specs.Checks.{looksAtPadding, looksAtDigest, looksAtKeySize, signs}
+use Rattle.checks.specs.Checks.{looksAtPadding, looksAtDigest, looksAtKeySize, signs}
 use Rattle.ruling.specs.Ruling.{bit, looked, markOf, Permit, permit, permitOf}
 
 -- ---- one bit more

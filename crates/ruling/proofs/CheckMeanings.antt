@@ -10,7 +10,7 @@ use lib.Bits.{bitAnd}
 use lib.Dec.{T, eqb, leb, ltb}
 use Rattle.answer.specs.Answer.{pick}
 use Rattle.answer.proofs.Logic.{by-le}
-use Rattle.ruling.specs.Checks.{knownPurpose, purposeRefused, algorithmFits, paddingFits, paddingRefused, looksAtDigest, digestFits, digestRefused, digestBytes, keyBytes, keySizeRefused, signs, clockRefused, activeRefused, expiryRefused, authMissing, tokenRefused, recent, freshRefused, nullRefused, usesRefused}
+use Rattle.checks.specs.Checks.{knownPurpose, purposeRefused, algorithmFits, paddingFits, paddingRefused, looksAtDigest, digestFits, digestRefused, digestBytes, keyBytes, keySizeRefused, signs, clockRefused, activeRefused, expiryRefused, authMissing, tokenRefused, recent, freshRefused, nullRefused, usesRefused}
 use Rattle.ruling.specs.Allowed.{Held, Each, InSets, Either, Signing, Deciphering, Recent}
 use Rattle.ruling.specs.Refuses.{Known, Fits}
 use Rattle.ruling.proofs.Means.{Means, equal, at-most, below, true-flag, both, one-of, only-with, negated, twice, says, held, each, in-sets}

@@ -10,8 +10,9 @@ use native.Mathlib.Omega.{arith}
 use lib.Bits.{bitAnd}
 use lib.Dec.{T, T-not, eqb, leb, ltb}
 use Rattle.answer.specs.Answer.{pick}
-use Rattle.ruling.specs.Rules.{Rules, either, setAllows, bothAllow}
-use Rattle.ruling.specs.Checks.{knownPurpose, purposeRefused, agreed, algorithmFits, paddingFits, paddingRefused, looksAtDigest, digestFits, digestRefused, digestBytes, keyBytes, keySizeRefused, expiry, clockRefused, activeRefused, expiryRefused, authMissing, tokenRefused, recent, freshRefused, nullRefused, usesRefused}
+use Rattle.checks.specs.Tags.{either, setAllows, bothAllow}
+use Rattle.ruling.specs.Rules.{Rules}
+use Rattle.checks.specs.Checks.{knownPurpose, purposeRefused, agreed, algorithmFits, paddingFits, paddingRefused, looksAtDigest, digestFits, digestRefused, digestBytes, keyBytes, keySizeRefused, expiry, clockRefused, activeRefused, expiryRefused, authMissing, tokenRefused, recent, freshRefused, nullRefused, usesRefused}
 use Rattle.ruling.specs.Allowed.{Held, InSets, Either, Signing, Deciphering}
 use Rattle.ruling.specs.Refuses.{InOne, Known, Algorithm, Fits, PaddingUnfit, DigestUnfit}
 use Rattle.ruling.specs.declared.request.Request.{Request}

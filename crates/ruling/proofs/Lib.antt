@@ -1,6 +1,4 @@
-pub mod Tags
 pub mod TagRows
-pub mod Checking
 pub mod Bits
 pub mod First
 pub mod Answers

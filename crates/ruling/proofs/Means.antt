@@ -10,7 +10,7 @@ use native.Mathlib.Nat.{le-of-suc-le-suc, lt-of-not-le}
 use native.Mathlib.Omega.{arith}
 use lib.Dec.{T, eqb, leb, ltb, eqb→eq, eqb-refl, leb→le, le→leb, T-not, not-T}
 use Rattle.answer.proofs.Logic.{by-le}
-use Rattle.ruling.specs.Rules.{there, allows, either, bothAllow, member, setAllows}
+use Rattle.checks.specs.Tags.{there, allows, either, bothAllow, member, setAllows}
 use Rattle.ruling.specs.Allowed.{Held, Each, Among, InSets}
 use Rattle.ruling.specs.Refuses.{InOne}
 

@@ -8,7 +8,7 @@ use native.Mathlib.Omega.{arith}
 use lib.Dec.{T}
 use Rattle.answer.specs.Answer.{pick}
 use Rattle.ruling.specs.Rules.{Rules}
-use Rattle.ruling.specs.Checks.{agreed, expiry, clockRefused, expiryRefused}
+use Rattle.checks.specs.Checks.{agreed, expiry, clockRefused, expiryRefused}
 use Rattle.ruling.specs.Ruling.{shapeChecks, dateChecks, tokenChecks, deviceChecks, checks}
 use Rattle.ruling.specs.Allowed.{Held, Each, Allowed, Signing, Deciphering}
 use Rattle.ruling.specs.Refuses.{Fits}

@@ -9,7 +9,7 @@ use native.Mathlib.Omega.{arith}
 use lib.Dec.{T, eqb, leb}
 use borrow.Author.Tests.{eq-eqb}
 use Rattle.answer.specs.Answer.{pick}
-use Rattle.ruling.specs.Checks.{agreed, paddingFits, digestFits}
+use Rattle.checks.specs.Checks.{agreed, paddingFits, digestFits}
 use Rattle.ruling.specs.Allowed.{Held, Each, Shape, rsaSign, rsaDecrypt, ecSign, agreeKey, attestKey, Signing, Deciphering}
 use Rattle.ruling.specs.Refuses.{Known, Fits}
 use Rattle.ruling.proofs.Means.{Means, equal, at-most, both, one-of}

@@ -16,11 +16,12 @@ use Rattle.records.specs.Fields.{fieldValue}
 use Rattle.records.specs.declared.FieldList.{FieldList}
 use Rattle.records.specs.declared.NumberSet.{NumberSet}
 use Rattle.records.proofs.Fields.{row-value}
-use Rattle.ruling.specs.Rules.{numberIn, setIn, there, saidFields, Rules, rulesOf}
+use Rattle.checks.specs.Tags.{there}
+use Rattle.ruling.specs.Rules.{numberIn, setIn, saidFields, Rules, rulesOf}
 use Rattle.ruling.specs.Ruling.{heldTags}
-use Rattle.ruling.specs.Code.{given}
+use Rattle.checks.specs.Code.{given}
 use Rattle.ruling.specs.Statements.{TagsNumbered}
-use Rattle.ruling.proofs.Tags.{there-given}
+use Rattle.checks.proofs.Tags.{there-given}
 
 -- ---- one field, there or not
 

@@ -9,7 +9,7 @@ use Prim.Native.Nat.{ℕ, _+_, _*_, _-_, _<_, _≤_}
 use lib.Bits.{bitAnd}
 use lib.ListN.{length, getD}
 use Rattle.ruling.specs.Rules.{Rules}
-use Rattle.ruling.specs.Checks.{digestBytes, keyBytes}
+use Rattle.checks.specs.Checks.{digestBytes, keyBytes}
 use Rattle.ruling.specs.declared.request.Request.{Request}
 
 -- one of the two lists holds the tag

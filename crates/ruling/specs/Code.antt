@@ -1,31 +1,11 @@
--- What the code's values stand for: a tag that is not there is none, whatever its value, and an answer is a permit or
--- document 01's number and place.
-use mathlib.Core.Bool.{Bool, true, false}
-use mathlib.Core.Option.{Option, none, some}
-use mathlib.Core.List.{List}
-use Prim.Native.Nat.{ℕ}
+-- What the code's values stand for: a list's rules, and an answer, which is a permit or document 01's number and place.
 use Rattle.answer.specs.Answer.{Answer, got, refused}
-use Rattle.records.specs.Content.{membersOf}
+use Rattle.checks.specs.Code.{ofNumberTag, ofSetTag}
 use Rattle.ruling.specs.Rules.{Rules}
 use Rattle.ruling.specs.Ruling.{Permit}
 use Rattle.ruling.specs.declared.Ruling.{Ruling}
 use Rattle.ruling.specs.declared.Ruling.the-variants as variant
-use Rattle.ruling.specs.declared.rules.NumberTag.{NumberTag}
-use Rattle.ruling.specs.declared.rules.SetTag.{SetTag}
 use Rattle.ruling.specs.declared.rules.Rules as code
-
--- a value that is there or not
-unfoldable pub given : {A : Type 0} → Bool → A → Option A
-given true a = some a
-given false a = none
-
--- a flag and a number
-abbrev pub ofNumberTag : NumberTag → Option ℕ
-ofNumberTag t = given (t .there) (t .value)
-
--- a flag and a set, of which the members count
-abbrev pub ofSetTag : SetTag → Option (List ℕ)
-ofSetTag t = given (t .there) (membersOf (t .set))
 
 -- a list's rules, tag by tag
 abbrev pub ofRules : code.Rules → Rules

@@ -1,5 +1,4 @@
 pub mod Rules
-pub mod Checks
 pub mod Ruling
 pub mod Code
 pub mod Allowed

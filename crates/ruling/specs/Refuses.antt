@@ -10,7 +10,7 @@ use Prim.Native.Nat.{ℕ, _+_, _*_, _-_, _<_, _≤_}
 use lib.Bits.{bitAnd}
 use Rattle.answer.specs.Sentences.{SaysFirst}
 use Rattle.ruling.specs.Rules.{Rules}
-use Rattle.ruling.specs.Checks.{digestBytes, keyBytes}
+use Rattle.checks.specs.Checks.{digestBytes, keyBytes}
 use Rattle.ruling.specs.Allowed.{Held, Each, InSets, Either, Shape, Signing, Deciphering}
 use Rattle.ruling.specs.declared.request.Request.{Request}
 

@@ -1,14 +1,14 @@
 -- Document 01, "The use ruling": the tags of one list that a use is ruled by, each by the number of its field. What is
 -- absent says nothing, and of a set only its members count.
-use mathlib.Core.Bool.{Bool, true, false, _&&_, _||_}
+use mathlib.Core.Bool.{Bool}
 use mathlib.Core.Option.{Option, none, some}
-use mathlib.Core.List.{List, [], _∷_}
+use mathlib.Core.List.{List}
 use Prim.Native.Nat.{ℕ}
-use lib.Dec.{eqb}
 use Rattle.schema.specs.Content.{ValueWith, num, nul, oct, nums, trust, FieldWith, Place, placeAt}
 use Rattle.records.specs.Content.{fieldsOf}
 use Rattle.records.specs.Fields.{fieldValue}
 use Rattle.records.specs.declared.FieldList.{FieldList}
+use Rattle.checks.specs.Tags.{there}
 
 -- ---- what a list says of a number
 
@@ -32,11 +32,6 @@ setIn (some nul) = none
 setIn (some (oct bs)) = none
 setIn (some (nums l)) = some l
 setIn (some (trust r)) = none
-
--- a tag is there, in one list
-unfoldable pub there : {A : Type 0} → Option A → Bool
-there none = false
-there (some a) = true
 
 -- the INTEGER and the members under a field's number, and whether there is such a field at all
 abbrev pub numberUnder : {O : Type 0} → List (FieldWith O) → ℕ → Option ℕ
@@ -90,25 +85,3 @@ rulesOf fs = record {
   useLimit = numberUnder fs 405;
   noAuth = holdsNumber fs 503;
 }
-
--- ---- "A tag in either list applies; in both, both must allow. A set tag must be in at least one list."
-
--- one list's tag allows: an absent one does
-unfoldable pub allows : {A : Type 0} → (A → Bool) → Option A → Bool
-allows f none = true
-allows f (some a) = f a
-
-abbrev pub either : {A : Type 0} → Option A → Option A → Bool
-either s h = there s || there h
-
--- the tag of each list that has it allows
-abbrev pub bothAllow : {A : Type 0} → (A → Bool) → Option A → Option A → Bool
-bothAllow f s h = allows f s && allows f h
-
-unfoldable pub member : ℕ → List ℕ → Bool
-member n [] = false
-member n (x ∷ xs) = eqb x n || member n xs
-
--- a set tag: in at least one list, and n in each that has it
-abbrev pub setAllows : ℕ → Option (List ℕ) → Option (List ℕ) → Bool
-setAllows n s h = either s h && bothAllow (member n) s h

@@ -9,8 +9,9 @@ use Rattle.answer.specs.Answer.{Answer, got, refused, guard, pick}
 use Rattle.answer.specs.Refusal.{illShaped, purposeUnknown, purposeNotAllowed, algorithmUnfit, paddingNotAllowed, digestNotAllowed, keyTooSmall, clockBelowFloor, notYetActive, expired, noAuthRule, tokenUnfit, tokenNotFresh, deviceLocked, userNotPresent, notConfirmed, earlyBootOver, usedUp}
 use Rattle.records.specs.Shape.{wellShapedRecord}
 use Rattle.records.specs.declared.Record.{Record}
-use Rattle.ruling.specs.Rules.{Rules, saidFields, rulesOf, there, either}
-use Rattle.ruling.specs.Checks.{knownPurpose, purposeRefused, agreed, algorithmFits, looksAtPadding, paddingRefused, looksAtDigest, digestRefused, looksAtKeySize, keySizeRefused, signs, expiry, clockRefused, activeRefused, expiryRefused, authMissing, tokenRefused, freshRefused, nullRefused, usesRefused}
+use Rattle.checks.specs.Tags.{there, either}
+use Rattle.ruling.specs.Rules.{Rules, saidFields, rulesOf}
+use Rattle.checks.specs.Checks.{knownPurpose, purposeRefused, agreed, algorithmFits, looksAtPadding, paddingRefused, looksAtDigest, digestRefused, looksAtKeySize, keySizeRefused, signs, expiry, clockRefused, activeRefused, expiryRefused, authMissing, tokenRefused, freshRefused, nullRefused, usesRefused}
 use Rattle.ruling.specs.declared.request.Request.{Request}
 
 -- a refusal's number, and whether it refuses

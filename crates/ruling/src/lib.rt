@@ -1,5 +1,4 @@
 // The use ruling (document 01, "The use ruling"): whether a key may be put to a use, by the rules of both its lists.
-mod checks;
 mod marks;
 mod order;
 pub mod request;
@@ -55,7 +54,7 @@ fn ruled(level: u32, keymint_level: u32, s: Rules, h: Rules, q: Request) -> Ruli
 pub fn rule(r: Record, q: Request) -> Ruling
     ensures { λ a. ⌜ ofRuling a ≡ ruling r q ⌝ }
 {
-    if !records::shape::well_shaped(r) {
+    if !shape::well_shaped(r) {
         return Ruling::Refused(ILL_SHAPED, 0);
     }
     let software = rules::rules_of(r.software);

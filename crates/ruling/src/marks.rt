@@ -1,10 +1,10 @@
 // The marks of a permit: which of sixteen tags a list holds and the ruling looked at, a bit each.
 use crate::Ruling;
-use crate::checks::looks_at_digest;
-use crate::checks::looks_at_key_size;
-use crate::checks::looks_at_padding;
-use crate::checks::signs;
 use crate::rules::Rules;
+use checks::looks_at_digest;
+use checks::looks_at_key_size;
+use checks::looks_at_padding;
+use checks::signs;
 ghost use mathlib.Core.Path.{_≡_};
 ghost use Prim.Native.Nat.{_+_, _*_, _<_, _^_};
 ghost use Rattle.answer.specs.Answer.{got};

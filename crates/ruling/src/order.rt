@@ -1,5 +1,4 @@
 // The checks in document 01's order. Each function answers the number of the first of its checks that refuses, or 0.
-use crate::checks;
 use crate::request::Request;
 use crate::rules::Rules;
 use answer::ALGORITHM_UNFIT;

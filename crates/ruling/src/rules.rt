@@ -1,4 +1,6 @@
 // The tags of a list that a use is ruled by, each there or not. A tag that is not there says nothing.
+use checks::NumberTag;
+use checks::SetTag;
 use records::FieldList;
 use records::NumberSet;
 ghost use mathlib.Core.Path.{_≡_};
@@ -7,18 +9,8 @@ ghost use Prim.Native.Nat.{_<_};
 ghost use lib.ListN.{getD};
 ghost use Rattle.records.specs.Content.{membersOf};
 ghost use Rattle.ruling.specs.Rules.{saidFields, rulesOf};
-ghost use Rattle.ruling.specs.Code.{given, ofNumberTag, ofSetTag, ofRules};
-
-// A number, or the time or the count that it stands for.
-pub(crate) struct NumberTag {
-    pub(crate) there: bool,
-    pub(crate) value: u64,
-}
-
-pub(crate) struct SetTag {
-    pub(crate) there: bool,
-    pub(crate) set: NumberSet,
-}
+ghost use Rattle.checks.specs.Code.{given, ofNumberTag, ofSetTag};
+ghost use Rattle.ruling.specs.Code.{ofRules};
 
 // A NULL tag is just there or not.
 pub(crate) struct Rules {

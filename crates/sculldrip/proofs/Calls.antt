@@ -13,8 +13,8 @@ use Rattle.answer.specs.Refusal.{shortImage}
 use Rattle.codec.specs.Octets.{splice}
 use Rattle.codec.proofs.Splice.{splice-nothing, splice-stores}
 use Rattle.records.specs.declared.Record.{Record}
-use Rattle.records.specs.declared.octets.Asked as code
-use Rattle.records.specs.Asked.{askedOctets, ofAsked}
+use Rattle.octet_fields.specs.declared.Asked as code
+use Rattle.octet_fields.specs.Asked.{askedOctets, ofAsked}
 use Rattle.writer.specs.Written.{written, leftBy, ofWritten}
 use Rattle.writer.specs.declared.Written.{Written}
 use Rattle.ruling.specs.Ruling.{Permit, ruling}

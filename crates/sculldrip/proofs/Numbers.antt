@@ -12,7 +12,7 @@ use Rattle.answer.specs.Answer.{Answer, got, refused, guard, bind, pick}
 use Rattle.answer.proofs.Logic.{and-left, and-right}
 use Rattle.records.specs.declared.Record.{Record}
 use Rattle.records.specs.Parts.{inside}
-use Rattle.records.specs.Asked.{listOf, askedOf, askedOctets}
+use Rattle.octet_fields.specs.Asked.{listOf, askedOf, askedOctets}
 use Rattle.records.specs.Shape.{wellShapedRecord}
 use Rattle.writer.specs.Written.{written}
 use Rattle.ruling.specs.declared.request.Request.{Request}

@@ -15,7 +15,7 @@ use Rattle.records.specs.Content.{contentOf}
 use Rattle.records.proofs.PlacesRead.{content-there}
 use Rattle.records.specs.declared.Record.{Record}
 use Rattle.records.specs.Fields.{fieldValue}
-use Rattle.records.specs.Asked.{askedOf, askedOctets}
+use Rattle.octet_fields.specs.Asked.{askedOf, askedOctets}
 use Rattle.writer.specs.Written.{written, leftBy}
 use Rattle.ruling.specs.declared.request.Request.{Request}
 use Rattle.ruling.specs.Rules.{rulesOf}

@@ -14,7 +14,7 @@ use Rattle.codec.specs.Octets.{splice}
 use Rattle.schema.specs.Content.{Content}
 use Rattle.schema.specs.Decode.{read}
 use Rattle.records.specs.declared.Record.{Record}
-use Rattle.records.specs.Asked.{askedOctets}
+use Rattle.octet_fields.specs.Asked.{askedOctets}
 use Rattle.reader.specs.declared.Outcome.{Outcome}
 use Rattle.reader.specs.Reading.{Reads}
 use Rattle.writer.specs.Written.{written, leftBy}

@@ -12,11 +12,11 @@ use Rattle.answer.specs.Refusal.{illShaped, encodingTooLong, outputShort}
 use Rattle.records.specs.declared.Record.{Record}
 use Rattle.records.specs.Shape.{wellShapedRecord}
 use Rattle.records.specs.Parts.{partsInside}
-use Rattle.writer.specs.declared.size.Sizes.{Sizes}
-use Rattle.writer.specs.Size.{Measured}
+use Rattle.sizes.specs.declared.Sizes.{Sizes}
+use Rattle.sizes.specs.Size.{Measured}
 use Rattle.writer.specs.Put.{Puts}
 use Rattle.writer.specs.Written.{encodingOf, writable, written, leftBy}
-use Rattle.writer.proofs.Sizes.{sized-over, sized-within}
+use Rattle.sizes.proofs.Sizing.{sized-over, sized-within}
 
 module _ (r : Record) (s out : List ℕ) where
   -- a refusal, and the output as it was

@@ -21,8 +21,8 @@ use Rattle.codec.specs.Integer.{integerElement}
 use Rattle.codec.specs.Header.{identifier, identifierOctets, headerOctets, elementOctets}
 use Rattle.codec.specs.Element.{chainOctets}
 use Rattle.codec.proofs.Splice.{splice-nothing, splice-one, splice-splice, length-splice}
-use Rattle.der.specs.Write.{ofPut, roomFor, headerPut}
-use Rattle.der.specs.declared.write.Put.{Put}
+use Rattle.der_write.specs.Write.{ofPut, roomFor, headerPut}
+use Rattle.der_write.specs.declared.Put.{Put}
 use Rattle.schema.specs.declared.Kind.{Kind}
 use Rattle.schema.proofs.Kind as kinds
 use Rattle.schema.specs.declared.Row.{Row}
@@ -33,10 +33,10 @@ use Rattle.records.specs.declared.RootOfTrust.{RootOfTrust}
 use Rattle.records.specs.declared.FieldList.{FieldList}
 use Rattle.records.specs.declared.Record.{Record}
 use Rattle.records.specs.Content.{octetsAt, partOf, rootOf, valueAt, fieldAt, upTo, fieldsOf, contentOf}
-use Rattle.writer.specs.Plain.{plainValue}
-use Rattle.writer.specs.Size.{capped, Sized, securityOctets, headOctets}
+use Rattle.sizes.specs.Plain.{plainValue}
+use Rattle.sizes.specs.Size.{capped, Sized, securityOctets, headOctets}
 use Rattle.writer.specs.Put.{Puts}
-use Rattle.writer.proofs.Sizes.{chain-append, capped-same, capped-twice, plain-null, row-field, Head, eight-is}
+use Rattle.sizes.proofs.Sizing.{chain-append, capped-same, capped-twice, plain-null, row-field, Head, eight-is}
 
 -- ---- one after another
 

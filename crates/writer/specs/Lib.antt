@@ -1,4 +1,2 @@
 pub mod Written
-pub mod Size
-pub mod Plain
 pub mod Put

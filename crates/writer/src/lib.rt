@@ -1,16 +1,15 @@
 // A record as its one encoding (document 01, "Numbers of the reader and writer"), at the front of a lent output.
 mod put;
-mod size;
 
 use crate::put::put_extension;
-use crate::size::sizes_of;
 use answer::ENCODING_TOO_LONG;
 use answer::ILL_SHAPED;
 use answer::OUTPUT_SHORT;
 use der::walk::EXTENSION_BYTES;
 use records::Record;
-use records::parts::parts_inside;
-use records::shape::well_shaped;
+use shape::parts::parts_inside;
+use shape::well_shaped;
+use sizes::sizes_of;
 ghost use mathlib.Core.Path.{_≡_};
 ghost use Rattle.writer.specs.Written.{written, leftBy, ofWritten};
 

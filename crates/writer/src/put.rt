@@ -1,23 +1,22 @@
 // The octets of each piece of an encoding, put at a place of a lent output. Each function answers the place after them.
 // The writer has found the size before, so that what is put fits; what becomes of octets that would not is left open.
-use crate::size::Sizes;
-use crate::size::members_size;
-use crate::size::plain_size;
-use crate::size::root_content_size;
-use crate::size::root_size;
-use crate::size::set_size;
-use der::write;
-use der::write::Put;
+use der_write::Put;
+use octet_fields::part_octets;
 use records::FieldList;
 use records::NumberSet;
 use records::Part;
 use records::Record;
 use records::RootOfTrust;
 use records::Security;
-use records::octets::part_octets;
-use records::shape::set_at;
 use schema::Kind;
 use schema::ROWS;
+use shape::set_at;
+use sizes::Sizes;
+use sizes::members_size;
+use sizes::plain_size;
+use sizes::root_content_size;
+use sizes::root_size;
+use sizes::set_size;
 ghost use mathlib.Core.List.{[], _∷_};
 ghost use Prim.Native.Nat.{_<_, _≤_};
 ghost use Rattle.codec.specs.Limits.{extensionBytes};
@@ -27,8 +26,8 @@ ghost use Rattle.codec.specs.Element.{chainOctets};
 ghost use Rattle.schema.specs.Rows.{ofKind};
 ghost use Rattle.schema.specs.Content.{enumeratedElement, octetsElement, booleanElement, rootContent, valueElement, fieldElement, listElement, encode, nums, trust, field};
 ghost use Rattle.records.specs.Content.{octetsAt, partOf, membersOf, rootOf, fieldsOf, contentOf};
-ghost use Rattle.writer.specs.Plain.{plainField, plainValue};
-ghost use Rattle.writer.specs.Size.{Sized, securityOctets, headElements, Measured};
+ghost use Rattle.sizes.specs.Plain.{plainField, plainValue};
+ghost use Rattle.sizes.specs.Size.{Sized, securityOctets, headElements, Measured};
 ghost use Rattle.writer.specs.Put.{Puts};
 
 // The header of an element with size content octets. The form is class and bit 6 of the first octet: 0 for a universal
@@ -37,7 +36,7 @@ fn put_header(out: &mut [u8], at: usize, form: u8, number: usize, size: usize) -
     requires { ⌜ (form < 8) × (number < 16384) ⌝ }
     ensures { λ r. ⌜ (size ≤ extensionBytes → Puts (now (out .entry)) at (headerOctets (identifier form number) size) (now (out .exit)) r) ⌝ }
 {
-    match write::put_header(out, at, form, number, size) {
+    match der_write::put_header(out, at, form, number, size) {
         Put::Next(next) => next,
         Put::Refused(_, _) => at,
     }
@@ -46,7 +45,7 @@ fn put_header(out: &mut [u8], at: usize, form: u8, number: usize, size: usize) -
 fn put_integer(out: &mut [u8], at: usize, x: u64) -> usize
     ensures { λ r. ⌜ Puts (now (out .entry)) at (integerElement x) (now (out .exit)) r ⌝ }
 {
-    match write::put_integer(out, at, x) {
+    match der_write::put_integer(out, at, x) {
         Put::Next(next) => next,
         Put::Refused(_, _) => at,
     }

@@ -1,5 +1,5 @@
 -- `ruling::looked_at` meets its contract: the algorithm agreed on, and whether either list has 504. Assumes nothing.
-use Rattle.ruling.proofs.Tags.{there-given}
+use Rattle.checks.proofs.Tags.{there-given}
 use borrow.Author.Needs.{needs}
 use Rattle.ruling.proofs.looked_at.Statement.{statement}
 use Rattle.ruling.proofs.looked_at.Tie as tie

@@ -1,6 +1,6 @@
 -- `ruling::marks::held_tags` meets its contract: a tag is there where its flag says so. Assumes nothing.
 use Rattle.ruling.specs.Ruling.{heldTags}
-use Rattle.ruling.proofs.Tags.{there-given}
+use Rattle.checks.proofs.Tags.{there-given}
 use Rattle.ruling.proofs.marks.held_tags.Statement.{statement}
 use Rattle.ruling.proofs.marks.held_tags.Tie as tie
 

@@ -3,7 +3,7 @@ use denote.Ref.{now}
 use Prim.Native.Nat.{_-_, _≤_}
 use mathlib.Core.Path.{_≡_, refl}
 use lib.ListN.{length}
-use Rattle.writer.proofs.Sizes.{set-value, root-value, plain-value}
+use Rattle.sizes.proofs.Sizing.{set-value, root-value, plain-value}
 use Rattle.writer.proofs.Puts.{Listed, field-number, fields-start, fields-more, fields-skip, fields-end}
 use borrow.Author.Needs.{needs}
 use Rattle.writer.proofs.put.put_fields.Statement.{statement}

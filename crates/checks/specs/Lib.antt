@@ -1,0 +1,3 @@
+pub mod Tags
+pub mod Checks
+pub mod Code
