@@ -1,3 +1,4 @@
 pub mod Bits
 pub mod Headers
 pub mod Elements
+pub mod Quick

@@ -1,2 +1,4 @@
 pub mod Header
+pub mod Extent
 pub mod Walk
+pub mod Quick

@@ -8,6 +8,7 @@ ghost use Prim.Native.Nat.{_≤_};
 ghost use lib.ListN.{length, take};
 ghost use lib.Seq.{slice};
 ghost use Rattle.codec.specs.Header.{readHighNumber, readIdentifier, readLength, readHeader, reportedPlace};
+ghost use Rattle.der.specs.Extent.{ExtentAt};
 ghost use Rattle.der.specs.Header.{ofIdentifier, ofLength, ofHeader, IdentifierInside, LengthInside, HeaderInside};
 
 // An identifier: the three high bits of its first octet (the lowest of them is bit 6, "holds elements"), its tag
@@ -141,6 +142,29 @@ fn read_length(s: &[u8], at: usize, end: usize) -> Length
     Length::Refused(BAD_LENGTH, at)
 }
 
+// The content after a length: from where to where it lies; none where the length is against the rules or the content does
+// not stand whole before the holder's end.
+pub enum Extent {
+    Is(usize, usize),
+    No,
+}
+
+// The content after the length at at, for a holder's end that is known to lie in s.
+pub(crate) fn extent_at(s: &[u8], at: usize, end: usize) -> Extent
+    requires { ⌜ end ≤ length (now s) ⌝ }
+    ensures { λ r. ⌜ ExtentAt (now (s .entry)) at end r ⌝ }
+{
+    match read_length(s, at, end) {
+        Length::Refused(_, _) => Extent::No,
+        Length::Is(size, body) => {
+            if end - body < size {
+                return Extent::No;
+            }
+            Extent::Is(body, body + size)
+        }
+    }
+}
+
 // The place that a refusal reports, of an element that starts at start with a fault at the place octet.
 fn reported_place(start: usize, number: u8, octet: usize) -> usize
     ensures { λ r. ⌜ r ≡ reportedPlace start number octet ⌝ }
@@ -192,4 +216,11 @@ pub fn read_header(s: &[u8], at: usize, end: usize) -> Header
     ensures inside { λ r. ⌜ HeaderInside at end r × HeaderInside at (length (now (s .entry))) r ⌝ }
 {
     header_at(s, at, clipped(s, end))
+}
+
+// The content after the length at at, up to its holder's end or that of s, whichever comes first.
+pub fn read_extent(s: &[u8], at: usize, end: usize) -> Extent
+    ensures { λ r. ⌜ ExtentAt (now (s .entry)) at end r ⌝ }
+{
+    extent_at(s, at, clipped(s, end))
 }

@@ -1,7 +1,9 @@
 // The first pass (document 01, "DER as walked"): nested elements within limits, no schema. One function walks an
 // element, another the run of elements inside it; they call each other. A header's octets are read once, and the
 // content of an element that holds none is not read at all.
+use crate::header::Extent;
 use crate::header::Header;
+use crate::header::extent_at;
 use crate::header::header_at;
 use answer::RUNS_OUT;
 use answer::SPARE_BYTES;
@@ -9,10 +11,11 @@ use answer::TOO_DEEP;
 use answer::TOO_LONG;
 use answer::TOO_MANY_ELEMENTS;
 ghost use mathlib.Core.Path.{_≡_};
-ghost use Prim.Native.Nat.{ℕ, _-_, _≤_};
+ghost use Prim.Native.Nat.{ℕ, _-_, _<_, _≤_};
 ghost use lib.ListN.{length};
 ghost use lib.Seq.{slice};
 ghost use Rattle.codec.specs.Tree.{walkElement, firstPass};
+ghost use Rattle.der.specs.Quick.{PlainTo, HolderTo, SingleTo, QuickIs};
 ghost use Rattle.der.specs.Walk.{ofStep, ofRun, ofWalked, counted, runCounted, nodeCount, StepInside, StepAt, extensionLimits};
 
 // "An extension has at most 8,192 bytes and 512 elements", "down to depth 8".
@@ -83,6 +86,99 @@ fn walk_element(s: &[u8], at: usize, end: usize, depth: usize, met: usize, most:
     }
 }
 
+// Past an element that a quick look takes whole: the next place, and how many elements were met so far.
+pub(crate) enum Quick {
+    Past(usize, usize),
+    No,
+}
+
+// Where the element at at stops, where it is of the universal class, its tag number is below 31 and it holds none; else 0.
+fn past_plain(s: &[u8], at: usize, end: usize) -> usize
+    requires { ⌜ (at < end) × (end ≤ length (now s)) ⌝ }
+    ensures { λ r. ⌜ ((r ≡ 0 → ⊥) → PlainTo (now (s .entry)) at end r) ⌝ }
+{
+    if 31 <= s[at] {
+        return 0;
+    }
+    match extent_at(s, at + 1, end) {
+        Extent::No => 0,
+        Extent::Is(_, stop) => stop,
+    }
+}
+
+// Where the length of the element at at stands, where it holds elements and its identifier has one octet, or three; else 0.
+fn holder_length(s: &[u8], at: usize, end: usize) -> usize
+    requires { ⌜ (at < end) × (end ≤ length (now s)) ⌝ }
+    ensures { λ r. ⌜ ((r ≡ 0 → ⊥) → HolderTo (now (s .entry)) at end r) ⌝ }
+{
+    let a = s[at];
+    if a / 32 % 2 == 0 {
+        return 0;
+    }
+    if a & 31 != 31 {
+        return at + 1;
+    }
+    if end - at < 4 {
+        return 0;
+    }
+    if s[at + 1] <= 128 {
+        return 0;
+    }
+    if 128 <= s[at + 2] {
+        return 0;
+    }
+    at + 3
+}
+
+// Where the element at at stops, where it holds just one, which holds none; else 0. An explicit tag around a number, NULL or
+// octets is one.
+fn past_single(s: &[u8], at: usize, end: usize) -> usize
+    requires { ⌜ (at < end) × (end ≤ length (now s)) ⌝ }
+    ensures { λ r. ⌜ ((r ≡ 0 → ⊥) → SingleTo (now (s .entry)) at end r) ⌝ }
+{
+    let p = holder_length(s, at, end);
+    if p == 0 {
+        return 0;
+    }
+    match extent_at(s, p, end) {
+        Extent::No => 0,
+        Extent::Is(body, stop) => {
+            if body == stop {
+                return 0;
+            }
+            if past_plain(s, body, stop) != stop {
+                return 0;
+            }
+            stop
+        }
+    }
+}
+
+// The element at at, where it is one of these and no limit is near.
+fn quick_step(s: &[u8], at: usize, end: usize, depth: usize, met: usize, most: usize) -> Quick
+    requires { ⌜ (at < end) × (end ≤ length (now s)) ⌝ }
+    ensures { λ r. ⌜ QuickIs (now (s .entry)) most depth met at end r ⌝ }
+{
+    if depth < 2 {
+        return Quick::No;
+    }
+    if most < 2 {
+        return Quick::No;
+    }
+    if most - 2 < met {
+        return Quick::No;
+    }
+    let plain = past_plain(s, at, end);
+    if plain != 0 {
+        return Quick::Past(plain, met + 1);
+    }
+    let single = past_single(s, at, end);
+    if single == 0 {
+        return Quick::No;
+    }
+    Quick::Past(single, met + 2)
+}
+
 // The elements from at to end, one after the other.
 fn walk_run(s: &[u8], at: usize, end: usize, depth: usize, met: usize, most: usize) -> Step
     requires { ⌜ (at ≤ end) × (end ≤ length (now s)) ⌝ }
@@ -92,14 +188,20 @@ fn walk_run(s: &[u8], at: usize, end: usize, depth: usize, met: usize, most: usi
     let mut place = at;
     let mut n = met;
     while place < end {
-        match walk_element(s, place, end, depth, n, most) {
-            Step::Refused(k, fault) => {
-                return Step::Refused(k, fault);
-            }
-            Step::Past(next, m) => {
+        match quick_step(s, place, end, depth, n, most) {
+            Quick::Past(next, m) => {
                 place = next;
                 n = m;
             }
+            Quick::No => match walk_element(s, place, end, depth, n, most) {
+                Step::Refused(k, fault) => {
+                    return Step::Refused(k, fault);
+                }
+                Step::Past(next, m) => {
+                    place = next;
+                    n = m;
+                }
+            },
         }
     }
     Step::Past(end, n)

@@ -15,6 +15,8 @@ use Rattle.der.proofs.walk.walk_run.Reads as walk-run
 use Rattle.der.proofs.walk.walk_run.Kinds as walk-run-kinds
 use Rattle.der.proofs.walk.+walk_element+walk_run.Lts-walk_run as walk-run-lts
 use Rattle.der.proofs.header.header_at.Reads as header-at-reads
+use Rattle.der.proofs.walk.quick_step.Reads as quick-step-reads
+use Rattle.der.proofs.Quick.{quick-more, quick-in}
 use Rattle.der.proofs.walk.+walk_element+walk_run.{statement}
 use Rattle.der.proofs.walk.+walk_element+walk_run.Tie.{close}
 
@@ -155,54 +157,108 @@ abbrev walk-run-μ-loop : walk-run-lts.MeasureT-loop
 walk-run-μ-loop s at end depth met most place₀ n₀ place n = end - place
 
 walk-run-loop-holds : (t : ℕ) → walk-run-lts.Need-loop-holds (
+  quick-step-reads.Asked,
+  quick-step-reads.Learnt,
   walk-element-below t,
   walk-element.Post,
 ) (walk-run-at t) walk-run.Post walk-run-Inv-loop walk-run-μ-loop
 walk-run-loop-holds t c = (search needs, search needs, search left-all)
 
-walk-run-walk-element-requires : (t : ℕ) → walk-run-lts.Need-walk-element-requires (
+walk-run-quick-step-requires : (t : ℕ) → walk-run-lts.Need-quick-step-requires (
+  quick-step-reads.Asked,
+  quick-step-reads.Learnt,
   walk-element-below t,
   walk-element.Post,
 ) (walk-run-at t) walk-run.Post walk-run-Inv-loop walk-run-μ-loop
-walk-run-walk-element-requires t c κs = omega arith
-
-walk-run-enum-known-k : (t : ℕ) → walk-run-lts.Need-enum-known-k (
-  walk-element-below t,
-  walk-element.Post,
-) (walk-run-at t) walk-run.Post walk-run-Inv-loop walk-run-μ-loop
-walk-run-enum-known-k t c = search needs
-
-walk-run-returns :
-    (t : ℕ) →
-    walk-run-lts.Need-returns
-    (walk-element-below t, walk-element.Post)
-    (walk-run-at t)
-    walk-run.Post
-    walk-run-Inv-loop
-    walk-run-μ-loop
-walk-run-returns t c = (search run-no, tt)
+walk-run-quick-step-requires t c κs = omega arith
 
 walk-run-enum-known-next : (t : ℕ) → walk-run-lts.Need-enum-known-next (
+  quick-step-reads.Asked,
+  quick-step-reads.Learnt,
   walk-element-below t,
   walk-element.Post,
 ) (walk-run-at t) walk-run.Post walk-run-Inv-loop walk-run-μ-loop
 walk-run-enum-known-next t c = search needs
 
 walk-run-loop-less : (t : ℕ) → walk-run-lts.Need-loop-less (
+  quick-step-reads.Asked,
+  quick-step-reads.Learnt,
   walk-element-below t,
   walk-element.Post,
 ) (walk-run-at t) walk-run.Post walk-run-Inv-loop walk-run-μ-loop
-walk-run-loop-less t c = omega (arith, step-in (c .before .before .before .before .before .loop .place) (c .before .before .before .before .before .before .before .args .end) _ _ _ (c .before .before .before .walk-element .ensures .1) (c .before .next .given .1))
+walk-run-loop-less t c = omega (arith, quick-in _ _ _ _ _ _ _ _ _ (c .before .before .before .quick-step .ensures) (c .before .next .given .1))
 
 walk-run-loop-again : (t : ℕ) → walk-run-lts.Need-loop-again (
+  quick-step-reads.Asked,
+  quick-step-reads.Learnt,
   walk-element-below t,
   walk-element.Post,
 ) (walk-run-at t) walk-run.Post walk-run-Inv-loop walk-run-μ-loop
 walk-run-loop-again t c =
-    let j = step-in (c .before .before .before .before .before .loop .place) (c .before .before .before .before .before .before .before .args .end) _ _ _ (c .before .before .before .walk-element .ensures .1) (c .before .next .given .1) in
+    let j = quick-in _ _ _ _ _ _ _ _ _ (c .before .before .before .quick-step .ensures) (c .before .next .given .1) in
+    (omega arith, j .1, search quick-more)
+
+walk-run-enum-told : (t : ℕ) → walk-run-lts.Need-enum-told (
+  quick-step-reads.Asked,
+  quick-step-reads.Learnt,
+  walk-element-below t,
+  walk-element.Post,
+) (walk-run-at t) walk-run.Post walk-run-Inv-loop walk-run-μ-loop
+walk-run-enum-told t c = search needs
+
+walk-run-walk-element-requires : (t : ℕ) → walk-run-lts.Need-walk-element-requires (
+  quick-step-reads.Asked,
+  quick-step-reads.Learnt,
+  walk-element-below t,
+  walk-element.Post,
+) (walk-run-at t) walk-run.Post walk-run-Inv-loop walk-run-μ-loop
+walk-run-walk-element-requires t c κs = omega arith
+
+walk-run-enum-known-k : (t : ℕ) → walk-run-lts.Need-enum-known-k (
+  quick-step-reads.Asked,
+  quick-step-reads.Learnt,
+  walk-element-below t,
+  walk-element.Post,
+) (walk-run-at t) walk-run.Post walk-run-Inv-loop walk-run-μ-loop
+walk-run-enum-known-k t c = search needs
+
+walk-run-returns : (t : ℕ) → walk-run-lts.Need-returns (
+  quick-step-reads.Asked,
+  quick-step-reads.Learnt,
+  walk-element-below t,
+  walk-element.Post,
+) (walk-run-at t) walk-run.Post walk-run-Inv-loop walk-run-μ-loop
+walk-run-returns t c = (search run-no, tt)
+
+walk-run-enum-known-next-2 : (t : ℕ) → walk-run-lts.Need-enum-known-next-2 (
+  quick-step-reads.Asked,
+  quick-step-reads.Learnt,
+  walk-element-below t,
+  walk-element.Post,
+) (walk-run-at t) walk-run.Post walk-run-Inv-loop walk-run-μ-loop
+walk-run-enum-known-next-2 t c = search needs
+
+walk-run-loop-less-2 : (t : ℕ) → walk-run-lts.Need-loop-less-2 (
+  quick-step-reads.Asked,
+  quick-step-reads.Learnt,
+  walk-element-below t,
+  walk-element.Post,
+) (walk-run-at t) walk-run.Post walk-run-Inv-loop walk-run-μ-loop
+walk-run-loop-less-2 t c = omega (arith, step-in _ _ _ _ _ (c .before .before .before .walk-element .ensures .1) (c .before .next2 .given .1))
+
+walk-run-loop-again-2 : (t : ℕ) → walk-run-lts.Need-loop-again-2 (
+  quick-step-reads.Asked,
+  quick-step-reads.Learnt,
+  walk-element-below t,
+  walk-element.Post,
+) (walk-run-at t) walk-run.Post walk-run-Inv-loop walk-run-μ-loop
+walk-run-loop-again-2 t c =
+    let j = step-in _ _ _ _ _ (c .before .before .before .walk-element .ensures .1) (c .before .next2 .given .1) in
     (omega arith, j .1, search run-more)
 
 walk-run-returns-2 : (t : ℕ) → walk-run-lts.Need-returns-2 (
+  quick-step-reads.Asked,
+  quick-step-reads.Learnt,
   walk-element-below t,
   walk-element.Post,
 ) (walk-run-at t) walk-run.Post walk-run-Inv-loop walk-run-μ-loop
@@ -231,16 +287,21 @@ pub +walk-element+walk-run-spec : {M : Type 1} → statement M
     (walk-element-returns-4 t)
     (walk-element-returns-5 t))
     λ t. walk-run-lts.spec
-    (walk-element-below t, walk-element.Post)
+    (quick-step-reads.Asked, quick-step-reads.Learnt, walk-element-below t, walk-element.Post)
     (walk-run-at t)
     walk-run.Post
     walk-run-Inv-loop
     walk-run-μ-loop
     (walk-run-loop-holds t)
-    (walk-run-walk-element-requires t)
-    (walk-run-enum-known-k t)
-    (walk-run-returns t)
+    (walk-run-quick-step-requires t)
     (walk-run-enum-known-next t)
     (walk-run-loop-less t)
     (walk-run-loop-again t)
+    (walk-run-enum-told t)
+    (walk-run-walk-element-requires t)
+    (walk-run-enum-known-k t)
+    (walk-run-returns t)
+    (walk-run-enum-known-next-2 t)
+    (walk-run-loop-less-2 t)
+    (walk-run-loop-again-2 t)
     (walk-run-returns-2 t)
