@@ -1,4 +1,5 @@
 pub mod Bits
 pub mod Headers
 pub mod Elements
+pub mod Short
 pub mod Quick

@@ -1,4 +1,4 @@
 pub mod Header
-pub mod Extent
+pub mod Short
 pub mod Walk
 pub mod Quick

@@ -2,30 +2,18 @@
 -- is what `walkElement` gives; where not, nothing is said and the element is walked.
 use mathlib.Core.Path.{_≡_}
 use mathlib.Core.List.{List}
-use Prim.Native.Nat.{ℕ, _-_, _%_, _<_, _≤_}
+use Prim.Native.Nat.{ℕ, _%_, _<_, _≤_}
 use lib.Seq.{slice}
 use Rattle.answer.specs.Answer.{got}
 use Rattle.codec.specs.Octets.{taken}
-use Rattle.codec.specs.Header.{identifier, header, readIdentifier, readHeader}
 use Rattle.codec.specs.Tree.{walkElement}
+use Rattle.der.specs.Short.{HeaderIs}
 use Rattle.der.specs.Walk.{counted}
 use Rattle.der.specs.declared.walk.Quick.{Quick}
-
--- the header of the element at `at`, whose content lies from b to x
-pub record HeaderIs (s : List ℕ) (at end form number b x : ℕ) : Type 0 where
-  pub is : readHeader at (slice at end s) ≡ got (taken (header (identifier form number) (x - b)) b (slice b end s))
-  pub from : at < b
-  pub size : b ≤ x
-  pub to : x ≤ end
 
 -- an element that holds none, from `at` to x
 abbrev pub PlainTo : List ℕ → ℕ → ℕ → ℕ → Type 0
 PlainTo s at end x = (form number b : ℕ) × HeaderIs s at end form number b x × (form % 2 ≡ 0)
-
--- the identifier of an element that holds elements, from `at` to p
-abbrev pub HolderTo : List ℕ → ℕ → ℕ → ℕ → Type 0
-HolderTo s at end p =
-    (form number : ℕ) × (readIdentifier at (slice at end s) ≡ got (taken (identifier form number) p (slice p end s))) × (form % 2 ≡ 0 → ⊥) × (at < p)
 
 -- an element that holds just one, which holds none
 abbrev pub SingleTo : List ℕ → ℕ → ℕ → ℕ → Type 0

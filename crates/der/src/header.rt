@@ -8,7 +8,7 @@ ghost use Prim.Native.Nat.{_≤_};
 ghost use lib.ListN.{length, take};
 ghost use lib.Seq.{slice};
 ghost use Rattle.codec.specs.Header.{readHighNumber, readIdentifier, readLength, readHeader, reportedPlace};
-ghost use Rattle.der.specs.Extent.{ExtentAt};
+ghost use Rattle.der.specs.Short.{ShortAt, ExtentAt};
 ghost use Rattle.der.specs.Header.{ofIdentifier, ofLength, ofHeader, IdentifierInside, LengthInside, HeaderInside};
 
 // An identifier: the three high bits of its first octet (the lowest of them is bit 6, "holds elements"), its tag
@@ -142,6 +142,53 @@ fn read_length(s: &[u8], at: usize, end: usize) -> Length
     Length::Refused(BAD_LENGTH, at)
 }
 
+// An identifier of one octet or of three, which most have; of any other nothing is said.
+pub enum Short {
+    Is {
+        form: u8,
+        number: usize,
+        next: usize,
+    },
+    No,
+}
+
+// The identifier at at by a short look, for a holder's end that is known to lie in s.
+pub(crate) fn short_at(s: &[u8], at: usize, end: usize) -> Short
+    requires { ⌜ end ≤ length (now s) ⌝ }
+    ensures { λ r. ⌜ ShortAt (now (s .entry)) at end r ⌝ }
+{
+    if end <= at {
+        return Short::No;
+    }
+    let a = s[at];
+    let form = a / 32;
+    let low = a & 31;
+    if low != 31 {
+        return Short::Is {
+            form,
+            number: low as usize,
+            next: at + 1,
+        };
+    }
+    if end - at < 4 {
+        return Short::No;
+    }
+    let b = s[at + 1];
+    if b <= 128 {
+        return Short::No;
+    }
+    let c = s[at + 2];
+    if 128 <= c {
+        return Short::No;
+    }
+    let high = (b & 0x7f) as usize;
+    Short::Is {
+        form,
+        number: high << 7 | c as usize,
+        next: at + 3,
+    }
+}
+
 // The content after a length: from where to where it lies; none where the length is against the rules or the content does
 // not stand whole before the holder's end.
 pub enum Extent {
@@ -223,4 +270,11 @@ pub fn read_extent(s: &[u8], at: usize, end: usize) -> Extent
     ensures { λ r. ⌜ ExtentAt (now (s .entry)) at end r ⌝ }
 {
     extent_at(s, at, clipped(s, end))
+}
+
+// The identifier at at by a short look, up to its holder's end or that of s, whichever comes first.
+pub fn read_short(s: &[u8], at: usize, end: usize) -> Short
+    ensures { λ r. ⌜ ShortAt (now (s .entry)) at end r ⌝ }
+{
+    short_at(s, at, clipped(s, end))
 }

@@ -3,7 +3,9 @@
 // content of an element that holds none is not read at all.
 use crate::header::Extent;
 use crate::header::Header;
+use crate::header::Short;
 use crate::header::extent_at;
+use crate::header::short_at;
 use crate::header::header_at;
 use answer::RUNS_OUT;
 use answer::SPARE_BYTES;
@@ -15,7 +17,7 @@ ghost use Prim.Native.Nat.{ℕ, _-_, _<_, _≤_};
 ghost use lib.ListN.{length};
 ghost use lib.Seq.{slice};
 ghost use Rattle.codec.specs.Tree.{walkElement, firstPass};
-ghost use Rattle.der.specs.Quick.{PlainTo, HolderTo, SingleTo, QuickIs};
+ghost use Rattle.der.specs.Quick.{PlainTo, SingleTo, QuickIs};
 ghost use Rattle.der.specs.Walk.{ofStep, ofRun, ofWalked, counted, runCounted, nodeCount, StepInside, StepAt, extensionLimits};
 
 // "An extension has at most 8,192 bytes and 512 elements", "down to depth 8".
@@ -106,50 +108,34 @@ fn past_plain(s: &[u8], at: usize, end: usize) -> usize
     }
 }
 
-// Where the length of the element at at stands, where it holds elements and its identifier has one octet, or three; else 0.
-fn holder_length(s: &[u8], at: usize, end: usize) -> usize
-    requires { ⌜ (at < end) × (end ≤ length (now s)) ⌝ }
-    ensures { λ r. ⌜ ((r ≡ 0 → ⊥) → HolderTo (now (s .entry)) at end r) ⌝ }
-{
-    let a = s[at];
-    if a / 32 % 2 == 0 {
-        return 0;
-    }
-    if a & 31 != 31 {
-        return at + 1;
-    }
-    if end - at < 4 {
-        return 0;
-    }
-    if s[at + 1] <= 128 {
-        return 0;
-    }
-    if 128 <= s[at + 2] {
-        return 0;
-    }
-    at + 3
-}
-
 // Where the element at at stops, where it holds just one, which holds none; else 0. An explicit tag around a number, NULL or
 // octets is one.
 fn past_single(s: &[u8], at: usize, end: usize) -> usize
     requires { ⌜ (at < end) × (end ≤ length (now s)) ⌝ }
     ensures { λ r. ⌜ ((r ≡ 0 → ⊥) → SingleTo (now (s .entry)) at end r) ⌝ }
 {
-    let p = holder_length(s, at, end);
-    if p == 0 {
-        return 0;
-    }
-    match extent_at(s, p, end) {
-        Extent::No => 0,
-        Extent::Is(body, stop) => {
-            if body == stop {
+    match short_at(s, at, end) {
+        Short::No => 0,
+        Short::Is {
+            form,
+            number: _,
+            next,
+        } => {
+            if form % 2 == 0 {
                 return 0;
             }
-            if past_plain(s, body, stop) != stop {
-                return 0;
+            match extent_at(s, next, end) {
+                Extent::No => 0,
+                Extent::Is(body, stop) => {
+                    if body == stop {
+                        return 0;
+                    }
+                    if past_plain(s, body, stop) != stop {
+                        return 0;
+                    }
+                    stop
+                }
             }
-            stop
         }
     }
 }

@@ -1,6 +1,6 @@
 -- `extent_at` meets its contract: a length whose content fits. Assumes nothing.
 use Rattle.der.proofs.Headers.{length-at}
-use Rattle.der.proofs.Quick.{extent-is}
+use Rattle.der.proofs.Short.{extent-is}
 use borrow.Author.Needs.{needs}
 use Rattle.der.proofs.header.extent_at.Statement.{statement}
 use Rattle.der.proofs.header.extent_at.Tie as tie

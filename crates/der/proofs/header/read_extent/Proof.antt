@@ -1,5 +1,5 @@
 -- `read_extent` meets its contract: `extent_at`, for any end. Assumes nothing.
-use Rattle.der.proofs.Quick.{extent-clipped}
+use Rattle.der.proofs.Short.{extent-clipped}
 use borrow.Author.Needs.{needs}
 use Rattle.der.proofs.header.read_extent.Statement.{statement}
 use Rattle.der.proofs.header.read_extent.Tie as tie
