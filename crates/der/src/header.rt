@@ -181,10 +181,10 @@ pub(crate) fn short_at(s: &[u8], at: usize, end: usize) -> Short
     if 128 <= c {
         return Short::No;
     }
-    let high = (b & 0x7f) as usize;
+    let upper = (b & 0x7f) as usize;
     Short::Is {
         form,
-        number: high << 7 | c as usize,
+        number: upper << 7 | c as usize,
         next: at + 3,
     }
 }

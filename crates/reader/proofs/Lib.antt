@@ -15,3 +15,4 @@ pub mod Eights
 pub mod Readings
 pub mod Heads
 pub mod Answered
+pub mod Shorts

@@ -1,8 +1,10 @@
 -- What the leaves' answers say in the definitions' terms: s are the bytes, `end` the holder's end.
+use mathlib.Core.Path.{_≡_}
 use mathlib.Core.Bool.{Bool, true, false}
 use mathlib.Core.List.{List}
 use Prim.Native.Nat.{ℕ, _+_, _<_, _≤_}
 use lib.Dec.{leb, eqb}
+use lib.ListN.{getD}
 use lib.Seq.{slice}
 use Rattle.answer.specs.Answer.{Answer, got, refused, guard}
 use Rattle.answer.specs.Refusal.{wrongElement, badContent}
@@ -10,6 +12,7 @@ use Rattle.codec.specs.Octets.{Taken, taken}
 use Rattle.codec.specs.Integer.{integerOf}
 use Rattle.codec.specs.Header.{identifier}
 use Rattle.codec.specs.Element.{tagged}
+use Rattle.der.specs.Short.{HeaderIs}
 use Rattle.schema.specs.Content.{Place, placeAt}
 use Rattle.reader.specs.declared.leaf.Value.{Value}
 use Rattle.reader.specs.declared.leaf.Number.{Number}
@@ -26,6 +29,10 @@ ofValue p Value.Wrong = refused 10 p
 -- INTEGER (2) and ENUMERATED (10) alike, by the tag number
 unfoldable pub readNumber : ℕ → ℕ → ℕ → List ℕ → Answer (Taken ℕ)
 readNumber tag top = tagged wrongElement (identifier 0 tag) (λ p q bs. integerOf top badContent p bs)
+
+-- a number below 128, in one content octet; of an answer from 128 on nothing is said, and the long way follows
+abbrev pub ShortNumber : List ℕ → ℕ → ℕ → ℕ → ℕ → Type 0
+ShortNumber s at end tag n = n < 128 → HeaderIs s at end 0 tag (at + 2) (at + 3) × (getD s (at + 2) 0 ≡ n)
 
 module _ (s : List ℕ) (end : ℕ) where
   abbrev pub ofNumber : Number → Answer (Taken ℕ)

@@ -1,11 +1,13 @@
 // The next element of a holder, opened: its identifier and where its content lies.
 use answer::WRONG_ELEMENT;
+use der::header::Extent;
 use der::header::Header;
 use der::header::read_header;
 ghost use mathlib.Core.Path.{_≡_};
 ghost use Prim.Native.Nat.{_≤_};
 ghost use lib.ListN.{length};
 ghost use lib.Seq.{slice};
+ghost use Rattle.der.specs.Short.{HeaderAt};
 ghost use Rattle.reader.specs.Element.{opened, openedAs, ofElement, ofTagged, ElementInside, TaggedInside};
 
 // An element: its identifier, and its content from body to stop; or a refusal with its place.
@@ -50,8 +52,8 @@ pub(crate) enum Tagged {
     Refused(u8, usize),
 }
 
-// The next element, which must have just this identifier.
-pub(crate) fn open_tagged(s: &[u8], at: usize, end: usize, form: u8, number: usize) -> Tagged
+// The next element, which must have just this identifier, whatever its header's form.
+fn open_long(s: &[u8], at: usize, end: usize, form: u8, number: usize) -> Tagged
     requires { ⌜ end ≤ length (now s) ⌝ }
     ensures is { λ r. ⌜ ofTagged (now (s .entry)) end r ≡ openedAs form number at (slice at end (now (s .entry))) ⌝ }
     ensures inside { λ r. ⌜ TaggedInside at end r ⌝ }
@@ -72,5 +74,47 @@ pub(crate) fn open_tagged(s: &[u8], at: usize, end: usize, form: u8, number: usi
             }
             Tagged::Is(body, stop)
         }
+    }
+}
+
+// The content of the next element, where its identifier and its length have one octet each, as in most, and the identifier is
+// just this one.
+fn short_tagged(s: &[u8], at: usize, end: usize, form: u8, number: usize) -> Extent
+    requires { ⌜ end ≤ length (now s) ⌝ }
+    ensures { λ r. ⌜ HeaderAt (now (s .entry)) at end form number r ⌝ }
+{
+    if 31 <= number {
+        return Extent::No;
+    }
+    if end <= at {
+        return Extent::No;
+    }
+    if end - at < 2 {
+        return Extent::No;
+    }
+    let a = s[at];
+    if a as usize != form as usize * 32 + number {
+        return Extent::No;
+    }
+    let b = s[at + 1];
+    if 128 <= b {
+        return Extent::No;
+    }
+    let size = b as usize;
+    if end - at - 2 < size {
+        return Extent::No;
+    }
+    Extent::Is(at + 2, at + 2 + size)
+}
+
+// The next element, which must have just this identifier; most headers have two octets.
+pub(crate) fn open_tagged(s: &[u8], at: usize, end: usize, form: u8, number: usize) -> Tagged
+    requires { ⌜ end ≤ length (now s) ⌝ }
+    ensures is { λ r. ⌜ ofTagged (now (s .entry)) end r ≡ openedAs form number at (slice at end (now (s .entry))) ⌝ }
+    ensures inside { λ r. ⌜ TaggedInside at end r ⌝ }
+{
+    match short_tagged(s, at, end, form, number) {
+        Extent::Is(body, stop) => Tagged::Is(body, stop),
+        Extent::No => open_long(s, at, end, form, number),
     }
 }

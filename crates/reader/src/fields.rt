@@ -12,6 +12,10 @@ use crate::set::empty_set;
 use answer::FIELD_ORDER;
 use answer::NOT_IN_VERSION;
 use answer::WRONG_ELEMENT;
+use der::header::Extent;
+use der::header::Short;
+use der::header::read_extent;
+use der::header::read_short;
 use records::FieldList;
 use schema::ROWS;
 use schema::held;
@@ -23,6 +27,7 @@ ghost use lib.ListN.{length};
 ghost use lib.Seq.{slice};
 ghost use Rattle.schema.specs.Decode.{readField, readList, asPlace};
 ghost use Rattle.reader.specs.Set.{StepAt, StepInside};
+ghost use Rattle.reader.specs.Element.{opened, ofElement, ElementInside};
 ghost use Rattle.reader.specs.Fields.{FieldOpened, ofField, FieldInside};
 ghost use Rattle.reader.specs.Lists.{fieldsFrom, ofFields, ofList};
 ghost use Rattle.records.specs.Empty.{emptyList};
@@ -39,12 +44,33 @@ pub(crate) enum FieldHead {
     Refused(u8, usize),
 }
 
+// The next element of a list, which is to be an explicit tag: most have a tag number below 31 and a header of two octets,
+// or one of two octets and a header of four.
+fn open_explicit(s: &[u8], at: usize, end: usize) -> Element
+    requires { ⌜ end ≤ length (now s) ⌝ }
+    ensures is { λ r. ⌜ ofElement (now (s .entry)) end r ≡ opened at (slice at end (now (s .entry))) ⌝ }
+    ensures inside { λ r. ⌜ ElementInside at end r ⌝ }
+{
+    match read_short(s, at, end) {
+        Short::No => open_element(s, at, end),
+        Short::Is { form, number, next } => match read_extent(s, next, end) {
+            Extent::No => open_element(s, at, end),
+            Extent::Is(body, stop) => Element::Is {
+                form,
+                number,
+                body,
+                stop,
+            },
+        },
+    }
+}
+
 // "A field: 9 for its class or form, 11, 12": up to its content.
 fn open_field(s: &[u8], at: usize, end: usize, version: u32, low: usize) -> FieldHead
     requires { ⌜ end ≤ length (now s) ⌝ }
     ensures { λ r. ⌜ FieldOpened (now (s .entry)) at end version low r ⌝ }
 {
-    match open_element(s, at, end) {
+    match open_explicit(s, at, end) {
         Element::Refused(k, place) => FieldHead::Refused(k, place),
         Element::Is {
             form,

@@ -9,7 +9,7 @@ ghost use lib.Seq.{slice};
 ghost use Rattle.codec.specs.Shortest.{bigEndian};
 ghost use Rattle.codec.specs.Integer.{integerOf};
 ghost use Rattle.schema.specs.Decode.{readOctets, readBoolean, readNull, asPlace};
-ghost use Rattle.reader.specs.Leaf.{readNumber, withinTop, ofValue, ofNumber, ofOctets, ofBoolean, ofNull, NumberInside, OctetsInside};
+ghost use Rattle.reader.specs.Leaf.{readNumber, ShortNumber, withinTop, ofValue, ofNumber, ofOctets, ofBoolean, ofNull, NumberInside, OctetsInside};
 
 // The number that content octets spell, shortest, not negative and within its top; or content that is wrong.
 pub(crate) enum Value {
@@ -92,8 +92,8 @@ fn value_of(s: &[u8], at: usize, end: usize, top: u64) -> Value
     within_top(s, at, end, top)
 }
 
-// An INTEGER (tag 2) or ENUMERATED (tag 10), within its top.
-pub(crate) fn read_number(s: &[u8], at: usize, end: usize, tag: usize, top: u64) -> Number
+// An INTEGER (tag 2) or ENUMERATED (tag 10), within its top, of any length.
+pub(crate) fn long_number(s: &[u8], at: usize, end: usize, tag: usize, top: u64) -> Number
     requires { ⌜ end ≤ length (now s) ⌝ }
     ensures is { λ r. ⌜ ofNumber (now (s .entry)) end r ≡ readNumber tag top at (slice at end (now (s .entry))) ⌝ }
     ensures inside { λ r. ⌜ NumberInside at end r ⌝ }
@@ -105,6 +105,45 @@ pub(crate) fn read_number(s: &[u8], at: usize, end: usize, tag: usize, top: u64)
             Value::Is(n) => Number::Is(n, stop),
         },
     }
+}
+
+// The number of the next element, where its content is one octet below 128; else 128.
+fn short_number(s: &[u8], at: usize, end: usize, tag: usize) -> u8
+    requires { ⌜ end ≤ length (now s) ⌝ }
+    ensures { λ n. ⌜ ShortNumber (now (s .entry)) at end tag n ⌝ }
+{
+    if 31 <= tag {
+        return 128;
+    }
+    if end <= at {
+        return 128;
+    }
+    if end - at < 3 {
+        return 128;
+    }
+    let a = s[at];
+    if a as usize != tag {
+        return 128;
+    }
+    if s[at + 1] != 1 {
+        return 128;
+    }
+    s[at + 2]
+}
+
+// An INTEGER (tag 2) or ENUMERATED (tag 10), within its top; many have one octet.
+pub(crate) fn read_number(s: &[u8], at: usize, end: usize, tag: usize, top: u64) -> Number
+    requires { ⌜ end ≤ length (now s) ⌝ }
+    ensures is { λ r. ⌜ ofNumber (now (s .entry)) end r ≡ readNumber tag top at (slice at end (now (s .entry))) ⌝ }
+    ensures inside { λ r. ⌜ NumberInside at end r ⌝ }
+{
+    let n = short_number(s, at, end, tag);
+    if n < 128 {
+        if n as u64 <= top {
+            return Number::Is(n as u64, at + 3);
+        }
+    }
+    long_number(s, at, end, tag, top)
 }
 
 // An OCTET STRING, whose content stays where it is.

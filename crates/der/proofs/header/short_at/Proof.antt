@@ -44,8 +44,8 @@ shared-slice-read-c c = search needs
 returns-5 : tie.Need-returns-5
 returns-5 c = search (needs, short-one, short-three)
 
-cast-high : tie.Need-cast-high
-cast-high c = search (needs, fits5, fits7)
+cast-upper : tie.Need-cast-upper
+cast-upper c = search (needs, fits5, fits7)
 
 cast-t18 : tie.Need-cast-t18
 cast-t18 c = search (needs, fits5, fits7)
@@ -73,7 +73,7 @@ short-at-spec =
     add-c
     shared-slice-read-c
     returns-5
-    cast-high
+    cast-upper
     cast-t18
     add-t20
     returns-6)

@@ -4,8 +4,8 @@ use borrow.Author.Needs.{needs}
 use Rattle.reader.proofs.fields.open_field.Statement.{statement}
 use Rattle.reader.proofs.fields.open_field.Tie as tie
 
-open-element-requires : tie.Need-open-element-requires
-open-element-requires c κs = search needs
+open-explicit-requires : tie.Need-open-explicit-requires
+open-explicit-requires c κs = search needs
 
 enum-known-k : tie.Need-enum-known-k
 enum-known-k c = search needs
@@ -44,7 +44,7 @@ pub open-field-spec : {M : Type 1} → statement M
 open-field-spec =
     tie.close
     (tie.spec
-    open-element-requires
+    open-explicit-requires
     enum-known-k
     enum-known-form
     returns

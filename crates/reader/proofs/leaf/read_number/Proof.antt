@@ -1,48 +1,39 @@
--- `read_number` meets its contract: an element opened, and its octets as a number or 10. Assumes nothing.
+-- `read_number` meets its contract: by the short way, or by the long one. Assumes nothing.
 use native.Mathlib.Omega.{arith}
-use Rattle.reader.proofs.Leaves.{number-no, number-wrong, number-is}
-use Rattle.reader.proofs.Open.{tagged-inside}
+use Rattle.reader.proofs.Shorts.{number-short}
 use borrow.Author.Needs.{needs}
 use Rattle.reader.proofs.leaf.read_number.Statement.{statement}
 use Rattle.reader.proofs.leaf.read_number.Tie as tie
 
-open-tagged-requires : tie.Need-open-tagged-requires
-open-tagged-requires c κs = search needs
+short-number-requires : tie.Need-short-number-requires
+short-number-requires c κs = search needs
 
-enum-known-k : tie.Need-enum-known-k
-enum-known-k c = search needs
+cast-if2 : tie.Need-cast-if2
+cast-if2 c = search needs
 
-enum-known-body : tie.Need-enum-known-body
-enum-known-body c = search needs
+cast-t10 : tie.Need-cast-t10
+cast-t10 c = search needs
 
-value-of-requires : tie.Need-value-of-requires
-value-of-requires c κs = omega (arith, tagged-inside (c .before .before .before .before .before .args .at) (c .before .before .before .before .before .args .end) _ _ _ (c .before .before .before .open-tagged .ensures .1) (c .before .body .given .1))
-
-enum-told : tie.Need-enum-told
-enum-told c = search needs
-
-enum-known-n : tie.Need-enum-known-n
-enum-known-n c = search needs
+add-t11 : tie.Need-add-t11
+add-t11 c = let j = c .before .before .short-number .ensures (search needs) in omega (arith, j .0 .to)
 
 returns : tie.Need-returns
-returns c = (search number-no, search needs)
+returns c = let j = c .before .before .short-number .ensures (search needs) in (search number-short, omega (arith, j .0 .to))
+
+long-number-requires : tie.Need-long-number-requires
+long-number-requires c κs = search needs
 
 returns-2 : tie.Need-returns-2
-returns-2 c = (search (number-no, number-wrong), search needs)
-
-returns-3 : tie.Need-returns-3
-returns-3 c = (search number-is, omega (arith, tagged-inside (c .before .before .before .before .before .before .before .before .before .args .at) (c .before .before .before .before .before .before .before .before .before .args .end) _ _ _ (c .before .before .before .before .before .before .before .open-tagged .ensures .1) (c .before .before .before .before .before .body .given .1)))
+returns-2 c = search needs
 
 pub read-number-spec : {M : Type 1} → statement M
 read-number-spec =
     tie.close
     (tie.spec
-    open-tagged-requires
-    enum-known-k
-    enum-known-body
-    value-of-requires
-    enum-told
-    enum-known-n
+    short-number-requires
+    cast-if2
+    cast-t10
+    add-t11
     returns
-    returns-2
-    returns-3)
+    long-number-requires
+    returns-2)
