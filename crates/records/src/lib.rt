@@ -20,24 +20,25 @@ pub struct NumberSet {
 #[repr(C)]
 pub struct RootOfTrust {
     pub key: Part,
-    pub locked: bool,
-    pub state: u32,
-    pub hashed: bool,
     pub hash: Part,
+    pub state: u32,
+    pub locked: bool,
+    pub hashed: bool,
 }
 
 // One list of fields, by the rows of the schema's table. Where a row's field is absent its values are never looked at.
-// A number stands in values; an octet field's start in values and its length in sizes; each set and 704 in its own.
+// A number stands in values; an octet field's start in values and its length in sizes; each set and 704 in its own. The order
+// leaves few gaps, so that an empty list is cleared in few strokes.
 #[repr(C)]
 pub struct FieldList {
     pub present: [bool; ROWS],
+    pub root: RootOfTrust,
     pub values: [u64; ROWS],
     pub sizes: [u64; ROWS],
     pub purpose: NumberSet,
     pub digest: NumberSet,
     pub padding: NumberSet,
     pub mgf: NumberSet,
-    pub root: RootOfTrust,
 }
 
 // A version and its security level: of the attestation, and of KeyMint.
