@@ -12,6 +12,9 @@ use lib.Dec.{T, eqb, leb, le→leb}
 use lib.ListN.{length, getD, set, replicate, length-set, getD-replicate}
 use lib.Seq.{getD-set-same, getD-set-other}
 use borrow.Author.Tests.{eq-eqb, ne-eqb}
+use mathlib.Core.Logic.{inl, inr}
+use denote.Enum.Declared.{tagOf}
+use types.Run.{OneOf}
 use Rattle.answer.specs.Answer.{got, pick}
 use Rattle.answer.proofs.Logic.{and-both, by-le}
 use Rattle.codec.specs.Octets.{Octets}
@@ -20,6 +23,7 @@ use Rattle.schema.specs.Table.{rowAt}
 use Rattle.schema.specs.Rows.{ofKind}
 use Rattle.schema.specs.Decode.{readPlaces}
 use Rattle.schema.specs.declared.Kind.{Kind}
+use Rattle.schema.proofs.Kind as kinds
 use Rattle.schema.proofs.Accepted.{read-sound}
 use Rattle.records.specs.Content.{octetsAt, contentOf, placesOf}
 use Rattle.records.specs.Rows.{allBelow}
@@ -40,19 +44,19 @@ use Rattle.records.proofs.PlacesRead.{places-read}
 use Rattle.records.proofs.Made.{record-made}
 use Rattle.records.proofs.ContentShaped.{content-shaped, all-of}
 use Rattle.reader.specs.Leaf.{OctetsInside}
-use Rattle.reader.specs.Content.{plainContent}
-use Rattle.reader.specs.Root.{HashedAs, PartsIn, RootInside}
+use Rattle.reader.specs.Content.{Stored, plainContent, plainEnd, isPlain}
+use Rattle.reader.specs.Root.{HashedAs, PartsIn}
 use Rattle.reader.specs.Lists.{withField}
 use Rattle.reader.specs.Head.{HeadInside}
 use Rattle.reader.specs.Reading.{ofReading, AcceptedSound}
 use Rattle.reader.specs.Eight.{refusedEight, refusedReading}
-use Rattle.reader.specs.Inside.{StepSlots, ContentIn, ContentKept, ListIn, RecordIn}
+use Rattle.reader.specs.Inside.{StepSlots, ContentIn, ContentKept, PlainIn, PlainKept, RootKept, ListIn, RecordIn}
 use Rattle.reader.specs.declared.set.Step.{Step}
 use Rattle.reader.specs.declared.leaf.Octets as leaf
 use Rattle.reader.specs.declared.root.Root as roots
 use Rattle.reader.specs.declared.head.Head.{Head}
 use Rattle.reader.specs.declared.eight.EightRead.{EightRead}
-use Rattle.reader.specs.declared.content.ContentRead.{ContentRead}
+use Rattle.reader.specs.declared.content.Plain.{Plain}
 use Rattle.reader.specs.declared.Outcome.{Outcome}
 use Rattle.reader.specs.declared.Reading.{Reading}
 use Rattle.reader.proofs.Spelled.{octets-all}
@@ -71,8 +75,8 @@ hash-clear true t e q = absurd (differ (sym e ∙ q))
 hash-clear false t e q = e .1
 
 module _ (n : ℕ) where
-  plain-in : (value size : Bool) (t : Step) (v z : ℕ) → (value ≡ false → v ≡ 0) → (size ≡ false → z ≡ 0) → (size ≡ true → v + z ≤ n) → ContentIn value size n (plainContent t v z)
-  plain-in value size t v z a b o = record {
+  plain-in : (value size : Bool) (v z : ℕ) → (value ≡ false → v ≡ 0) → (size ≡ false → z ≡ 0) → (size ≡ true → v + z ≤ n) → ContentIn value size n (plainContent v z)
+  plain-in value size v z a b o = record {
     set = (omega arith, refl);
     spare = empty-spare;
     root = (omega arith, omega arith);
@@ -82,47 +86,57 @@ module _ (n : ℕ) where
     octet = o;
   }
 
-  -- nothing was read, or a NULL
-  pub none-in : (value size : Bool) (t : Step) (c : ContentRead) → c ≡ plainContent t 0 0 → ContentIn value size n c
-  none-in value size t c e = rw e (plain-in value size t 0 0 (λ q. refl) (λ q. refl) (λ q. omega arith))
+  at-end-in : (value size : Bool) (b : Bool) (v z x : ℕ) → ContentIn value size n (plainContent v z) → PlainIn value size n (pick b (Plain.Is v z) (Plain.Refused 9 x))
+  unfolding pick
+  at-end-in value size true v z x i = i
+  at-end-in value size false v z x i = tt
 
-  pub number-in : (t : Step) (v : ℕ) (c : ContentRead) → c ≡ plainContent t v 0 → ContentIn true false n c
-  number-in t v c e = rw e (plain-in true false t v 0 (λ q. absurd (differ q)) (λ q. refl) (λ q. absurd (differ (sym q))))
+  pub number-in : (v x end : ℕ) (r : Plain) → r ≡ plainEnd v 0 x end → PlainIn true false n r
+  number-in v x end r e = rw e (at-end-in true false (eqb x end) v 0 x (plain-in true false v 0 (λ q. absurd (differ q)) (λ q. refl) (λ q. absurd (differ (sym q)))))
 
-  pub octets-in : (at end b m x : ℕ) (r : leaf.Octets) (t : Step) (c : ContentRead) → end ≤ n → OctetsInside at end r → r ≡ leaf.Octets.Is b m x → c ≡ plainContent t b m → ContentIn true true n c
-  octets-in at end b m x r t c f i w e =
+  pub null-in : (x end : ℕ) (r : Plain) → r ≡ plainEnd 0 0 x end → PlainIn false false n r
+  null-in x end r e = rw e (at-end-in false false (eqb x end) 0 0 x (plain-in false false 0 0 (λ q. refl) (λ q. refl) (λ q. absurd (differ (sym q)))))
+
+  pub octets-in : (at end b m x : ℕ) (o : leaf.Octets) (r : Plain) → end ≤ n → OctetsInside at end o → o ≡ leaf.Octets.Is b m x → r ≡ plainEnd b m x end → PlainIn true true n r
+  octets-in at end b m x o r f i w e =
       let j = subst (OctetsInside at end) w i in
-      rw e (plain-in true true t b m (λ q. absurd (differ q)) (λ q. absurd (differ q)) (λ q. omega (arith, j .1 .1)))
+      rw e (at-end-in true true (eqb x end) b m x (plain-in true true b m (λ q. absurd (differ q)) (λ q. absurd (differ q)) (λ q. omega (arith, j .1 .1))))
 
-  pub set-in : (x : ℕ) (t u : Step) (g : NumberSet) (r : RootOfTrust) → StepSlots t g → t ≡ Step.Past x → r ≡ emptyRoot → ContentIn false false n (record { step = u; value = 0; size = 0; set = g; root = r })
-  set-in x t u g r i w e =
+  pub set-in : (x : ℕ) (t : Step) (g : NumberSet) → StepSlots t g → t ≡ Step.Past x → ContentIn false false n (record { value = 0; size = 0; set = g; root = emptyRoot })
+  set-in x t g i w =
       let j : SetInSlots g × SpareClear g = subst (λ (y : Step). StepSlots y g) w i in
-      rw e (record { set = j .0; spare = j .1; root = (omega arith, omega arith); hash = λ q. refl; noValue = λ q. refl; noSize = λ q. refl; octet = λ q. omega arith })
+      record { set = j .0; spare = j .1; root = (omega arith, omega arith); hash = λ q. refl; noValue = λ q. refl; noSize = λ q. refl; octet = λ q. omega arith }
 
-  pub root-in : (at end x : ℕ) (h : Bool) (r : roots.Root) (t : RootOfTrust) (u : Step) (g : NumberSet) → end ≤ n → RootInside at end h r → r ≡ roots.Root.Is t x → g ≡ emptySet → ContentIn false false n (record { step = u; value = 0; size = 0; set = g; root = t })
-  root-in at end x h r t u g f i w e =
-      let j = subst (RootInside at end h) w i in
-      rw e (record { set = (omega arith, refl); spare = empty-spare; root = (omega (arith, j .1 .1 .0 .0), omega (arith, j .1 .1 .0 .1)); hash = hash-clear h t (j .1 .1 .1); noValue = λ q. refl; noSize = λ q. refl; octet = λ q. omega arith })
+  pub root-in : (h : Bool) (t : RootOfTrust) (x : ℕ) (r : roots.Root) → RootKept n h r → r ≡ roots.Root.Is t x → ContentIn false false n (record { value = 0; size = 0; set = emptySet; root = t })
+  root-in h t x r i w =
+      let j : PartsIn n t × HashedAs h t = subst (RootKept n h) w i in
+      record { set = (omega arith, refl); spare = empty-spare; root = j .0; hash = hash-clear h t (j .1); noValue = λ q. refl; noSize = λ q. refl; octet = λ q. omega arith }
 
   -- by the kind, which says whether there is a value or a size
-  module _ (c : ContentRead) (k : Kind) where
-    pub in-number32 : k ≡ Kind.Number32 → ContentIn true false n c → ContentKept (ofKind k) n c
-    in-number32 w p = rw w p
+  module _ (r : Plain) (k : Kind) where
+    pub in-number32 : k ≡ Kind.Number32 → PlainIn true false n r → PlainKept (ofKind k) n r
+    in-number32 w p y = rw w p
 
-    pub in-number64 : k ≡ Kind.Number64 → ContentIn true false n c → ContentKept (ofKind k) n c
-    in-number64 w p = rw w p
+    pub in-number64 : k ≡ Kind.Number64 → PlainIn true false n r → PlainKept (ofKind k) n r
+    in-number64 w p y = rw w p
 
-    pub in-null : k ≡ Kind.Null → ContentIn false false n c → ContentKept (ofKind k) n c
-    in-null w p = rw w p
+    pub in-null : k ≡ Kind.Null → PlainIn false false n r → PlainKept (ofKind k) n r
+    in-null w p y = rw w p
 
-    pub in-octets : k ≡ Kind.Octets → ContentIn true true n c → ContentKept (ofKind k) n c
-    in-octets w p = rw w p
-
-    pub in-set : k ≡ Kind.Set → ContentIn false false n c → ContentKept (ofKind k) n c
-    in-set w p = rw w p
-
-    pub in-root : k ≡ Kind.Root → ContentIn false false n c → ContentKept (ofKind k) n c
-    in-root w p = rw w p
+  pub in-octets : (r : Plain) (k : Kind) → OneOf (0 ∷ 4 ∷ 5 ∷ []) (tagOf kinds.the-type k) → PlainIn true true n r → PlainKept (ofKind k) n r
+  unfolding isPlain
+  in-octets r Kind.Octets o p y = p
+  in-octets r Kind.Set o p y = absurd (differ (sym y))
+  in-octets r Kind.Root o p y = absurd (differ (sym y))
+  in-octets r Kind.Number32 (inl q) p y = absurd (omega arith)
+  in-octets r Kind.Number32 (inr (inl q)) p y = absurd (omega arith)
+  in-octets r Kind.Number32 (inr (inr q)) p y = absurd (omega arith)
+  in-octets r Kind.Number64 (inl q) p y = absurd (omega arith)
+  in-octets r Kind.Number64 (inr (inl q)) p y = absurd (omega arith)
+  in-octets r Kind.Number64 (inr (inr q)) p y = absurd (omega arith)
+  in-octets r Kind.Null (inl q) p y = absurd (omega arith)
+  in-octets r Kind.Null (inr (inl q)) p y = absurd (omega arith)
+  in-octets r Kind.Null (inr (inr q)) p y = absurd (omega arith)
 
 -- ---- one list
 
@@ -135,7 +149,7 @@ by-eq {ℓ} : {X : Type ℓ} (a b : ℕ) → (a ≡ b → X) → ((a ≡ b → �
 by-eq a b f g = by-le a b (λ p. by-le b a (λ q. f (omega arith)) (λ q. g (λ e. absurd (omega arith)))) (λ p. g (λ e. absurd (omega arith)))
 
 -- of a list with a row more: that row is there, and any other as it was
-module _ (l : FieldList) (row : ℕ) (c : ContentRead) (z : Sized l) (h : row < 42) where
+module _ (l : FieldList) (row : ℕ) (c : Stored) (z : Sized l) (h : row < 42) where
   stored-present : presentAt (withField l row c) row ≡ true
   stored-present = getD-set-same (l .present) row true false (omega (arith, z .present))
 
@@ -179,7 +193,7 @@ module _ (n : ℕ) where
   pub list-empty-in : (l : FieldList) → l ≡ emptyList → ListIn n l
   list-empty-in l e = rw e empty-in
 
-  module _ (l : FieldList) (row : ℕ) (c : ContentRead) (h : row < 42) (i : ListIn n l) (j : ContentKept (rowAt row .kind) n c) where
+  module _ (l : FieldList) (row : ℕ) (c : Stored) (h : row < 42) (i : ListIn n l) (j : ContentKept (rowAt row .kind) n c) where
     stored-octet : (k : ℕ) → k < 42 → rowAt k .kind ≡ table.octets → getD (set (l .values) row (c .value)) k 0 + getD (set (l .sizes) row (c .size)) k 0 ≤ n
     stored-octet k b e =
         by-eq k row

@@ -1,22 +1,26 @@
 -- A field's content as the code answers it, one law for a refusal and one for a value of each kind. Assumes nothing.
 use mathlib.Core.Path.{_≡_, refl, sym, subst, _∙_}
-use mathlib.Core.Bool.{Bool}
-use mathlib.Core.List.{List}
+use mathlib.Core.Bool.{Bool, true, false, true≢false}
+use mathlib.Core.Logic.{inl, inr}
+use mathlib.Core.List.{List, [], _∷_}
 use Prim.Native.Nat.{ℕ, _<_, _≤_}
 use native.Mathlib.Omega.{arith}
-use lib.Dec.{eqb}
+use lib.Dec.{eqb, leb}
 use lib.ListN.{length}
 use lib.Seq.{slice}
 use borrow.Author.Tests.{eq-eqb, ne-eqb}
+use denote.Enum.Declared.{tagOf}
+use types.Run.{OneOf}
 use Rattle.answer.specs.Answer.{Answer, got, refused, bind, pick}
 use Rattle.codec.specs.Octets.{Taken, taken}
 use Rattle.codec.specs.Element.{exactly, under}
 use Rattle.schema.specs.Table as table
-use Rattle.schema.specs.Table.{top32, top64}
+use Rattle.schema.specs.Table.{rows, rowAt, top32, top64}
 use Rattle.schema.specs.Rows.{ofKind}
-use Rattle.schema.specs.Content.{num, nul, oct, nums, trust, Place, placeAt}
+use Rattle.schema.specs.Content.{ValueWith, num, nul, oct, nums, trust, Place, placeAt}
 use Rattle.schema.specs.Decode as decode
 use Rattle.schema.specs.declared.Kind.{Kind}
+use Rattle.schema.proofs.Kind as kinds
 use Rattle.schema.specs.Decode.{readInteger, readOctets, readNull, readSet, readRoot, readValue, asPlace}
 use Rattle.records.specs.Content.{membersOf}
 use Rattle.records.specs.declared.NumberSet.{NumberSet}
@@ -24,14 +28,17 @@ use Rattle.records.specs.declared.RootOfTrust.{RootOfTrust}
 use Rattle.reader.specs.Leaf.{readNumber, ofNumber, ofNull, ofOctets, NumberInside, OctetsInside}
 use Rattle.reader.specs.Set.{ofSet, StepInside}
 use Rattle.records.specs.Empty.{emptySet, emptyRoot}
-use Rattle.reader.specs.Root.{Trust, trustOf, ofRoot, RootInside}
-use Rattle.reader.specs.Content.{ofStepped, endStep, plainContent, contentValue}
+use Rattle.reader.specs.Root.{Trust, trustOf, ofTrust, ofRoot, HashedAs, PartsIn, RootInside}
+use Rattle.reader.specs.Content.{Stored, ofStepped, endStep, plainContent, contentValue, ofPlain, plainEnd, isPlain, PlainRead}
+use Rattle.records.specs.Slots.{SetInSlots}
+use Rattle.records.specs.Clear.{SpareClear}
+use Rattle.reader.specs.Inside.{StepSlots, RootKept}
 use Rattle.reader.specs.declared.leaf.Number.{Number}
 use Rattle.reader.specs.declared.leaf.Octets.{Octets}
 use Rattle.reader.specs.declared.root.Root.{Root}
 use Rattle.reader.specs.declared.set.Step.{Step}
-use Rattle.reader.specs.declared.content.ContentRead.{ContentRead}
-use Rattle.reader.proofs.Exact.{exact-no, exact-is}
+use Rattle.reader.specs.declared.content.Plain.{Plain}
+use Rattle.reader.proofs.Exact.{exact-no, exact-extra, exact-whole, exact-is}
 use Rattle.reader.proofs.Members.{number-inside}
 
 pub end-past : (x end : ℕ) → x ≡ end → Step.Past x ≡ endStep x end
@@ -42,88 +49,169 @@ pub end-extra : (x end : ℕ) → (x ≡ end → ⊥) → Step.Refused 9 x ≡ e
 unfolding pick
 end-extra x end h = rw (ne-eqb x end h) refl
 
-pub plain-is : (t : Step) (v z : ℕ) (g : NumberSet) (r : RootOfTrust) → g ≡ emptySet → r ≡ emptyRoot → _≡_ {A = ContentRead} (record { step = t; value = v; size = z; set = g; root = r }) (plainContent t v z)
-plain-is t v z g r e q = rw (e, q) refl
+pub plain-past : (v z x end : ℕ) → x ≡ end → Plain.Is v z ≡ plainEnd v z x end
+unfolding pick
+plain-past v z x end h = rw (eq-eqb x end h) refl
 
-module _ (s : List ℕ) (at end : ℕ) (fit : end ≤ length s) (c : ContentRead) where
+pub plain-extra : (v z x end : ℕ) → (x ≡ end → ⊥) → Plain.Refused 9 x ≡ plainEnd v z x end
+unfolding pick
+plain-extra v z x end h = rw (ne-eqb x end h) refl
+
+-- ---- a plain content, exactly
+
+module _ {A : Type 0} (rd : ℕ → List ℕ → Answer (Taken A)) (s : List ℕ) (at end : ℕ) (fit : end ≤ length s) (f : ℕ → ℕ → A) where
+  as-step : (b : Bool) (v z x : ℕ) → ofPlain f (pick b (Plain.Is v z) (Plain.Refused 9 x)) ≡ ofStepped (pick b (Step.Past x) (Step.Refused 9 x)) (f v z)
+  unfolding pick
+  as-step true v z x = refl
+  as-step false v z x = refl
+
+  plain-exact : (v z x : ℕ) (r : Plain) → rd at (slice at end s) ≡ got (taken (f v z) x (slice x end s)) → x ≤ end → r ≡ plainEnd v z x end → ofPlain f r ≡ exactly 9 rd at (slice at end s)
+  plain-exact v z x r e h q = rw q (as-step (eqb x end) v z x ∙ exact-is rd s at end fit (f v z) x e h)
+
+module _ (s : List ℕ) (at end : ℕ) (fit : end ≤ length s) where
   module _ (top : ℕ) (r : Number) (e : ofNumber s end r ≡ readNumber 2 top at (slice at end s)) where
-    pub number-content-no : (k p : ℕ) → r ≡ Number.Refused k p → c ≡ plainContent (Step.Refused k p) 0 0 → ofStepped (c .step) (c .value) ≡ exactly 9 (readNumber 2 top) at (slice at end s)
-    number-content-no k p w q = rw q (sym (exact-no (readNumber 2 top) s at end fit k p (sym (rw w at e))))
+    pub number-no : (k p : ℕ) → r ≡ Number.Refused k p → refused k p ≡ exactly 9 (readNumber 2 top) at (slice at end s)
+    number-no k p w = sym (exact-no (readNumber 2 top) s at end fit k p (sym (rw w at e)))
 
-    pub number-content-is : (n x : ℕ) (t : Step) → NumberInside at end r → r ≡ Number.Is n x → t ≡ endStep x end → c ≡ plainContent t n 0
-        → ofStepped (c .step) (c .value) ≡ exactly 9 (readNumber 2 top) at (slice at end s)
-    number-content-is n x t i w q u = rw (u, q) (exact-is (readNumber 2 top) s at end fit n x (sym (rw w at e)) (number-inside at end n x r i w .1))
+    pub number-is : (n x : ℕ) (t : Plain) → NumberInside at end r → r ≡ Number.Is n x → t ≡ plainEnd n 0 x end → ofPlain (λ v z. v) t ≡ exactly 9 (readNumber 2 top) at (slice at end s)
+    number-is n x t i w q = plain-exact (readNumber 2 top) s at end fit (λ v z. v) n 0 x t (sym (rw w at e)) (number-inside at end n x r i w .1) q
 
   module _ (r : Number) (e : ofNull s end r ≡ readNull at (slice at end s)) where
-    pub null-content-no : (k p : ℕ) → r ≡ Number.Refused k p → c ≡ plainContent (Step.Refused k p) 0 0 → ofStepped (c .step) tt ≡ exactly 9 readNull at (slice at end s)
-    null-content-no k p w q = rw q (sym (exact-no readNull s at end fit k p (sym (rw w at e))))
+    pub null-no : (k p : ℕ) → r ≡ Number.Refused k p → refused k p ≡ exactly 9 readNull at (slice at end s)
+    null-no k p w = sym (exact-no readNull s at end fit k p (sym (rw w at e)))
 
-    pub null-content-is : (n x : ℕ) (t : Step) → NumberInside at end r → r ≡ Number.Is n x → t ≡ endStep x end → c ≡ plainContent t 0 0 → ofStepped (c .step) tt ≡ exactly 9 readNull at (slice at end s)
-    null-content-is n x t i w q u = rw (u, q) (exact-is readNull s at end fit tt x (sym (rw w at e)) (number-inside at end n x r i w .1))
+    pub null-is : (n x : ℕ) (t : Plain) → NumberInside at end r → r ≡ Number.Is n x → t ≡ plainEnd 0 0 x end → ofPlain (λ v z. tt) t ≡ exactly 9 readNull at (slice at end s)
+    null-is n x t i w q = plain-exact readNull s at end fit (λ v z. tt) 0 0 x t (sym (rw w at e)) (number-inside at end n x r i w .1) q
 
   module _ (r : Octets) (e : ofOctets s end r ≡ readOctets asPlace at (slice at end s)) where
-    pub octets-content-no : (k p : ℕ) → r ≡ Octets.Refused k p → c ≡ plainContent (Step.Refused k p) 0 0
-        → ofStepped (c .step) (placeAt (c .value) (c .size)) ≡ exactly 9 (readOctets asPlace) at (slice at end s)
-    octets-content-no k p w q = rw q (sym (exact-no (readOctets asPlace) s at end fit k p (sym (rw w at e))))
+    pub octets-no : (k p : ℕ) → r ≡ Octets.Refused k p → refused k p ≡ exactly 9 (readOctets asPlace) at (slice at end s)
+    octets-no k p w = sym (exact-no (readOctets asPlace) s at end fit k p (sym (rw w at e)))
 
-    pub octets-content-is : (b n x : ℕ) (t : Step) → OctetsInside at end r → r ≡ Octets.Is b n x → t ≡ endStep x end → c ≡ plainContent t b n
-        → ofStepped (c .step) (placeAt (c .value) (c .size)) ≡ exactly 9 (readOctets asPlace) at (slice at end s)
-    octets-content-is b n x t i w q u =
+    pub octets-is : (b n x : ℕ) (t : Plain) → OctetsInside at end r → r ≡ Octets.Is b n x → t ≡ plainEnd b n x end → ofPlain placeAt t ≡ exactly 9 (readOctets asPlace) at (slice at end s)
+    octets-is b n x t i w q =
         let j = subst (OctetsInside at end) w i in
-        rw (u, q) (exact-is (readOctets asPlace) s at end fit (placeAt b n) x (sym (rw w at e)) (j .1 .0))
+        plain-exact (readOctets asPlace) s at end fit placeAt b n x t (sym (rw w at e)) (j .1 .0) q
+
+-- ---- a set and 704
 
 module _ (s : List ℕ) (at end : ℕ) (fit : end ≤ length s) (t : Step) (g : NumberSet) (e : ofSet s end t g ≡ readSet at (slice at end s)) where
-  pub set-content-no : (k p : ℕ) (c : ContentRead) → t ≡ Step.Refused k p → c ≡ plainContent (Step.Refused k p) 0 0 → ofStepped (c .step) (membersOf (c .set)) ≡ exactly 9 readSet at (slice at end s)
-  set-content-no k p c w q = rw q (sym (exact-no readSet s at end fit k p (sym (rw w at e))))
+  pub set-content-no : (k p : ℕ) → t ≡ Step.Refused k p → refused k p ≡ exactly 9 readSet at (slice at end s)
+  set-content-no k p w = sym (exact-no readSet s at end fit k p (sym (rw w at e)))
 
   pub set-content-is : (x : ℕ) (u : Step) → StepInside at end t → t ≡ Step.Past x → u ≡ endStep x end → ofStepped u (membersOf g) ≡ exactly 9 readSet at (slice at end s)
   set-content-is x u i w q =
       let j : (at < x) × (x ≤ end) = subst (StepInside at end) w i in
       rw q (exact-is readSet s at end fit (membersOf g) x (sym (rw w at e)) (j .1))
 
-module _ (s : List ℕ) (at end : ℕ) (fit : end ≤ length s) (hash : Bool) (r : Root) (e : ofRoot s end r ≡ readRoot asPlace hash at (slice at end s)) where
-  pub root-content-no : (k p : ℕ) (c : ContentRead) → r ≡ Root.Refused k p → c ≡ plainContent (Step.Refused k p) 0 0 → ofStepped (c .step) (trustOf (c .root)) ≡ exactly 9 (readRoot asPlace hash) at (slice at end s)
-  root-content-no k p c w q = rw q (sym (exact-no (readRoot asPlace hash) s at end fit k p (sym (rw w at e))))
+pub set-content-slots : (x end : ℕ) (t u : Step) (g : NumberSet) → StepSlots t g → t ≡ Step.Past x → u ≡ endStep x end → StepSlots u g
+unfolding pick
+set-content-slots x end t u g i w q = rw q (go (eqb x end))
+  where
+    j : SetInSlots g × SpareClear g
+    j = subst (λ (y : Step). StepSlots y g) w i
 
-  pub root-content-is : (t : RootOfTrust) (x : ℕ) (u : Step) → RootInside at end hash r → r ≡ Root.Is t x → u ≡ endStep x end → ofStepped u (trustOf t) ≡ exactly 9 (readRoot asPlace hash) at (slice at end s)
-  root-content-is t x u i w q =
-      let j = subst (RootInside at end hash) w i in
-      rw q (exact-is (readRoot asPlace hash) s at end fit (trustOf t) x (sym (rw w at e)) (j .1 .0))
+    go : (b : Bool) → StepSlots (pick b (Step.Past x) (Step.Refused 9 x)) g
+    go true = j
+    go false = tt
+
+module _ (s : List ℕ) (at end : ℕ) (fit : end ≤ length s) (hash : Bool) (r : Root) (e : ofRoot s end r ≡ readRoot asPlace hash at (slice at end s)) where
+  pub root-content-no : (k p : ℕ) → r ≡ Root.Refused k p → refused k p ≡ exactly 9 (readRoot asPlace hash) at (slice at end s)
+  root-content-no k p w = sym (exact-no (readRoot asPlace hash) s at end fit k p (sym (rw w at e)))
+
+  module _ (t : RootOfTrust) (x : ℕ) (i : RootInside at end hash r) (w : r ≡ Root.Is t x) where
+    pub root-content-is : x ≡ end → got (trustOf t) ≡ exactly 9 (readRoot asPlace hash) at (slice at end s)
+    root-content-is h = sym (exact-whole (readRoot asPlace hash) s at end fit (trustOf t) x (sym (rw w at e)) h)
+
+    pub root-content-extra : (x ≡ end → ⊥) → refused 9 x ≡ exactly 9 (readRoot asPlace hash) at (slice at end s)
+    root-content-extra h =
+        let j = subst (RootInside at end hash) w i in
+        sym (exact-extra (readRoot asPlace hash) s at end fit (trustOf t) x (sym (rw w at e)) (omega (arith, j .1 .0)))
+
+pub root-content-kept : (n at end x : ℕ) (hash : Bool) (r : Root) (t : RootOfTrust) → end ≤ n → RootInside at end hash r → r ≡ Root.Is t x → RootKept n hash (Root.Is t x)
+root-content-kept n at end x hash r t h i w = let j = subst (RootInside at end hash) w i in ((omega (arith, j .1 .1 .0 .0), omega (arith, j .1 .1 .0 .1)), j .1 .1 .1)
 
 -- ---- by the kind
 
-module _ (s : List ℕ) (at end : ℕ) (c : ContentRead) where
-  stepped : {A B : Type 0} (f : A → B) (t : Step) (a : A) (M : Answer A) → ofStepped t a ≡ M → ofStepped t (f a) ≡ bind M (λ a. got (f a))
-  unfolding bind
-  stepped f (Step.Past x) a M e = rw (← e) refl
-  stepped f (Step.Refused k p) a M e = rw (← e) refl
+abbrev pub setStored : NumberSet → Stored
+setStored g = record { value = 0; size = 0; set = g; root = emptyRoot }
 
-  pub as-number32 : (k : Kind) (hash : Bool) → k ≡ Kind.Number32 → ofStepped (c .step) (c .value) ≡ exactly 9 (readNumber 2 top32) at (slice at end s)
-      → (v p : ℕ) → hash ≡ table.hashed v → ofStepped (c .step) (contentValue (ofKind k) c) ≡ readValue asPlace v (ofKind k) p at (slice at end s)
+abbrev pub rootStored : RootOfTrust → Stored
+rootStored r = record { value = 0; size = 0; set = emptySet; root = r }
+
+stepped : {A B : Type 0} (f : A → B) (t : Step) (a : A) (M : Answer A) → ofStepped t a ≡ M → ofStepped t (f a) ≡ bind M (λ a. got (f a))
+unfolding bind
+stepped f (Step.Past x) a M e = rw (← e) refl
+stepped f (Step.Refused k p) a M e = rw (← e) refl
+
+plainly : {A B : Type 0} (h : A → B) (f : ℕ → ℕ → A) (r : Plain) (M : Answer A) → ofPlain f r ≡ M → ofPlain (λ v z. h (f v z)) r ≡ bind M (λ a. got (h a))
+unfolding bind
+plainly h f (Plain.Is v z) M e = rw (← e) refl
+plainly h f (Plain.Refused k p) M e = rw (← e) refl
+
+module _ (s : List ℕ) (at end : ℕ) (r : Plain) where
+  pub as-number32 : (k : Kind) → k ≡ Kind.Number32 → ofPlain (λ v z. v) r ≡ exactly 9 (readNumber 2 top32) at (slice at end s) → PlainRead (ofKind k) at (slice at end s) r
   unfolding contentValue readValue under readInteger readNumber
-  as-number32 k hash q e v p h = rw q (stepped num (c .step) (c .value) _ e)
+  as-number32 k q e y v p = rw q (plainly num (λ v z. v) r _ e)
 
-  pub as-number64 : (k : Kind) (hash : Bool) → k ≡ Kind.Number64 → ofStepped (c .step) (c .value) ≡ exactly 9 (readNumber 2 top64) at (slice at end s)
-      → (v p : ℕ) → hash ≡ table.hashed v → ofStepped (c .step) (contentValue (ofKind k) c) ≡ readValue asPlace v (ofKind k) p at (slice at end s)
+  pub as-number64 : (k : Kind) → k ≡ Kind.Number64 → ofPlain (λ v z. v) r ≡ exactly 9 (readNumber 2 top64) at (slice at end s) → PlainRead (ofKind k) at (slice at end s) r
   unfolding contentValue readValue under readInteger readNumber
-  as-number64 k hash q e v p h = rw q (stepped num (c .step) (c .value) _ e)
+  as-number64 k q e y v p = rw q (plainly num (λ v z. v) r _ e)
 
-  pub as-null : (k : Kind) (hash : Bool) → k ≡ Kind.Null → ofStepped (c .step) tt ≡ exactly 9 readNull at (slice at end s)
-      → (v p : ℕ) → hash ≡ table.hashed v → ofStepped (c .step) (contentValue (ofKind k) c) ≡ readValue asPlace v (ofKind k) p at (slice at end s)
+  pub as-null : (k : Kind) → k ≡ Kind.Null → ofPlain (λ v z. tt) r ≡ exactly 9 readNull at (slice at end s) → PlainRead (ofKind k) at (slice at end s) r
   unfolding contentValue readValue under
-  as-null k hash q e v p h = rw q (stepped (λ (u : Unit {0}). nul) (c .step) tt _ e)
+  as-null k q e y v p = rw q (plainly (λ (u : Unit {0}). nul) (λ v z. tt) r _ e)
 
-  pub as-octets : (k : Kind) (hash : Bool) → k ≡ Kind.Octets → ofStepped (c .step) (placeAt (c .value) (c .size)) ≡ exactly 9 (readOctets asPlace) at (slice at end s)
-      → (v p : ℕ) → hash ≡ table.hashed v → ofStepped (c .step) (contentValue (ofKind k) c) ≡ readValue asPlace v (ofKind k) p at (slice at end s)
-  unfolding contentValue readValue under
-  as-octets k hash q e v p h = rw q (stepped oct (c .step) (placeAt (c .value) (c .size)) _ e)
+  pub as-octets : (k : Kind) → OneOf (0 ∷ 4 ∷ 5 ∷ []) (tagOf kinds.the-type k) → ofPlain placeAt r ≡ exactly 9 (readOctets asPlace) at (slice at end s) → PlainRead (ofKind k) at (slice at end s) r
+  unfolding contentValue readValue under isPlain
+  as-octets Kind.Octets o e y v p = plainly oct placeAt r _ e
+  as-octets Kind.Set o e y v p = absurd (true≢false (sym y))
+  as-octets Kind.Root o e y v p = absurd (true≢false (sym y))
+  as-octets Kind.Number32 (inl q) e y v p = absurd (omega arith)
+  as-octets Kind.Number32 (inr (inl q)) e y v p = absurd (omega arith)
+  as-octets Kind.Number32 (inr (inr q)) e y v p = absurd (omega arith)
+  as-octets Kind.Number64 (inl q) e y v p = absurd (omega arith)
+  as-octets Kind.Number64 (inr (inl q)) e y v p = absurd (omega arith)
+  as-octets Kind.Number64 (inr (inr q)) e y v p = absurd (omega arith)
+  as-octets Kind.Null (inl q) e y v p = absurd (omega arith)
+  as-octets Kind.Null (inr (inl q)) e y v p = absurd (omega arith)
+  as-octets Kind.Null (inr (inr q)) e y v p = absurd (omega arith)
 
-  pub as-set : (k : Kind) (hash : Bool) → k ≡ Kind.Set → ofStepped (c .step) (membersOf (c .set)) ≡ exactly 9 readSet at (slice at end s)
-      → (v p : ℕ) → hash ≡ table.hashed v → ofStepped (c .step) (contentValue (ofKind k) c) ≡ readValue asPlace v (ofKind k) p at (slice at end s)
+module _ (s : List ℕ) (at end : ℕ) where
+  pub as-set : (k : Kind) → k ≡ Kind.Set → (t : Step) (g : NumberSet) → ofStepped t (membersOf g) ≡ exactly 9 readSet at (slice at end s)
+      → (v p : ℕ) → ofStepped t (contentValue (ofKind k) (setStored g)) ≡ readValue asPlace v (ofKind k) p at (slice at end s)
   unfolding contentValue readValue under
-  as-set k hash q e v p h = rw q (stepped nums (c .step) (membersOf (c .set)) _ e)
+  as-set k q t g e v p = rw q (stepped nums t (membersOf g) _ e)
 
-  pub as-root : (k : Kind) (hash : Bool) → k ≡ Kind.Root → ofStepped (c .step) (trustOf (c .root)) ≡ exactly 9 (readRoot asPlace hash) at (slice at end s)
-      → (v p : ℕ) → hash ≡ table.hashed v → ofStepped (c .step) (contentValue (ofKind k) c) ≡ readValue asPlace v (ofKind k) p at (slice at end s)
-  unfolding contentValue readValue under
-  as-root k hash q e v p h = rw (q, ← h) (stepped (λ (t : Trust). trust (decode.rootFrom t)) (c .step) (trustOf (c .root)) _ e)
+  abbrev ofRootStored : table.Kind → Root → Answer (ValueWith Place)
+  ofRootStored k (Root.Is t x) = got (contentValue k (rootStored t))
+  ofRootStored k (Root.Refused n p) = refused n p
+
+  trusted : (r : Root) (M : Answer Trust) → ofTrust r ≡ M → ofRootStored table.root r ≡ bind M (λ (t : Trust). got (trust (decode.rootFrom t)))
+  unfolding bind contentValue
+  trusted (Root.Is t x) M e = rw (← e) refl
+  trusted (Root.Refused k p) M e = rw (← e) refl
+
+  pub as-root : (k : Kind) → k ≡ Kind.Root → (v p : ℕ) (r : Root) → ofTrust r ≡ exactly 9 (readRoot asPlace (leb 3 v)) at (slice at end s) → ofRootStored (ofKind k) r ≡ readValue asPlace v (ofKind k) p at (slice at end s)
+  unfolding contentValue readValue under table.hashed
+  as-root k q v p r e = rw q (trusted r _ e)
+
+-- ---- kinds that are plain
+
+pub is-plain : (k : Kind) → OneOf (1 ∷ 2 ∷ 3 ∷ 4 ∷ []) (tagOf kinds.the-type k) → isPlain (ofKind k) ≡ true
+unfolding isPlain
+is-plain Kind.Number32 o = refl
+is-plain Kind.Number64 o = refl
+is-plain Kind.Null o = refl
+is-plain Kind.Octets o = refl
+is-plain Kind.Set (inl e) = absurd (omega arith)
+is-plain Kind.Set (inr (inl e)) = absurd (omega arith)
+is-plain Kind.Set (inr (inr (inl e))) = absurd (omega arith)
+is-plain Kind.Set (inr (inr (inr e))) = absurd (omega arith)
+is-plain Kind.Root (inl e) = absurd (omega arith)
+is-plain Kind.Root (inr (inl e)) = absurd (omega arith)
+is-plain Kind.Root (inr (inr (inl e))) = absurd (omega arith)
+is-plain Kind.Root (inr (inr (inr e))) = absurd (omega arith)
+
+pub plain-row : (row : ℕ) → isPlain (rowAt row .kind) ≡ true → (row ≡ 0 → ⊥) × (row ≡ 3 → ⊥) × (row ≡ 4 → ⊥) × (row ≡ 7 → ⊥) × (row ≡ 26 → ⊥)
+unfolding isPlain rows
+plain-row row t = ((λ q. true≢false (sym (rw q at t))), (λ q. true≢false (sym (rw q at t))), (λ q. true≢false (sym (rw q at t))), (λ q. true≢false (sym (rw q at t))), (λ q. true≢false (sym (rw q at t))))

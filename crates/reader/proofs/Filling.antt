@@ -9,35 +9,45 @@ use lib.Dec.{leb, eqb}
 use lib.ListN.{length, set}
 use lib.Seq.{slice}
 use borrow.Author.Tests.{eq-eqb, ne-eqb}
+use denote.Enum.Declared.{tagOf}
+use types.Run.{OneOf}
+use Rattle.records.proofs.Placed.{by-set, by-root}
 use Rattle.answer.specs.Answer.{Answer, got, refused, bind, pick}
 use Rattle.answer.proofs.Logic.{by-le}
 use Rattle.codec.specs.Octets.{Taken, taken}
+use Rattle.codec.specs.Element.{exactly}
 use Rattle.schema.specs.Table as table
 use Rattle.schema.specs.Table.{Kind, rows, rowAt}
 use Rattle.schema.specs.Rows.{ofKind, ofRow}
 use Rattle.schema.specs.Content.{ValueWith, FieldWith, field, afterField, Place, placeAt}
-use Rattle.schema.specs.Decode.{readValue, readField, readList, asPlace}
+use Rattle.schema.specs.Decode.{readSet, readRoot, readValue, readField, readList, asPlace}
 use Rattle.schema.specs.declared.Row as code
+use Rattle.schema.specs.declared.Kind.{Kind as codeKind}
+use Rattle.schema.proofs.Kind as kinds
 use Rattle.schema.proofs.Table.{above}
-use Rattle.records.specs.Content.{fieldAt, fieldsOf}
+use Rattle.records.specs.Content.{membersOf, fieldAt, fieldsOf}
+use Rattle.records.specs.Clear.{usesValue, usesSize}
 use Rattle.records.specs.declared.NumberSet.{NumberSet}
 use Rattle.records.specs.declared.RootOfTrust.{RootOfTrust}
 use Rattle.records.specs.declared.FieldList.{FieldList}
-use Rattle.reader.specs.Content.{ofStepped, contentValue}
-use Rattle.reader.specs.Fields.{ofField, FieldKept, FieldInside}
+use Rattle.reader.specs.Content.{Stored, ofStepped, ofPlain, plainContent, contentValue, isPlain, PlainRead}
+use Rattle.reader.specs.Fields.{FieldAt, FieldOpened}
 use Rattle.reader.specs.Element.{openedAs, ofTagged}
 use Rattle.reader.specs.Set.{StepAt}
 use Rattle.reader.specs.Lists.{withField, fieldsFrom, ofFields, ofList}
 use Rattle.records.specs.Empty.{emptyList}
-use Rattle.reader.specs.Inside.{ListIn}
+use Rattle.reader.specs.Root.{ofTrust}
+use Rattle.reader.specs.Inside.{StepSlots, ContentKept, PlainIn, PlainKept, RootKept, ListIn}
 use Rattle.reader.specs.declared.element.Tagged.{Tagged}
 use Rattle.reader.proofs.Open.{leaf-no, leaf-is}
 use Rattle.reader.specs.declared.set.Step.{Step}
-use Rattle.reader.specs.declared.fields.FieldRead.{FieldRead}
-use Rattle.reader.specs.declared.content.ContentRead.{ContentRead}
+use Rattle.reader.specs.declared.root.Root.{Root}
+use Rattle.reader.specs.declared.fields.FieldHead.{FieldHead}
+use Rattle.reader.specs.declared.content.Plain.{Plain}
 use Rattle.reader.proofs.Chains.{Ahead, ahead-start, ahead-refused, ahead-more, ahead-end}
-use Rattle.reader.proofs.Bounds.{empty-in, stored-in}
-use Rattle.reader.proofs.FieldReads.{field-kept}
+use Rattle.reader.proofs.Contents.{setStored, rootStored, is-plain, plain-row, as-set, as-root}
+use Rattle.reader.proofs.Bounds.{empty-in, stored-in, set-in, root-in}
+use Rattle.reader.proofs.FieldReads.{field-no, field-at}
 use Rattle.records.proofs.UpTo.{upTo-one}
 use Rattle.reader.proofs.Lists.{stored-same, stored-other, empty-none, empty-fields}
 
@@ -49,8 +59,8 @@ pub record Filled (s : List ℕ) (at end v : ℕ) (l : FieldList) (place low : �
   pub bounds : ListIn (length s) l
 
 -- the list with one row more; its sets and root of trust as given
-abbrev stored : FieldList → ℕ → ContentRead → NumberSet → NumberSet → NumberSet → NumberSet → RootOfTrust → FieldList
-stored l row c purpose digest padding mgf root = record { present = set (l .present) row true; values = set (l .values) row (c .value); sizes = set (l .sizes) row (c .size); purpose = purpose; digest = digest; padding = padding; mgf = mgf; root = root }
+abbrev stored : FieldList → ℕ → ℕ → ℕ → NumberSet → NumberSet → NumberSet → NumberSet → RootOfTrust → FieldList
+stored l row value size purpose digest padding mgf root = record { present = set (l .present) row true; values = set (l .values) row value; sizes = set (l .sizes) row size; purpose = purpose; digest = digest; padding = padding; mgf = mgf; root = root }
 
 module _ (s : List ℕ) (at end v : ℕ) (fit : end ≤ length s) where
   pub filled-none : at ≤ end → Filled s at end v emptyList at 0
@@ -67,68 +77,116 @@ module _ (s : List ℕ) (at end v : ℕ) (fit : end ≤ length s) where
     refuses : (k q : ℕ) → readField asPlace v low place (slice place end s) ≡ refused k q → refused k q ≡ fieldsFrom v at (slice at end s)
     refuses k q w = ahead-refused (readField asPlace v) afterField s end fit _ (fieldsOf l placeAt) low place (g .ahead) k q h w
 
-    module _ (f : FieldRead) (e : ofField s end (f .content .step) f ≡ readField asPlace v low place (slice place end s)) where
-      pub filled-no : (k q : ℕ) → f .content .step ≡ Step.Refused k q → refused k q ≡ fieldsFrom v at (slice at end s)
-      filled-no k q w = refuses k q (sym (rw w at e))
+    module _ (r : FieldHead) (o : FieldOpened s place end v low r) where
+      pub filled-no : (k q : ℕ) → r ≡ FieldHead.Refused k q → refused k q ≡ fieldsFrom v at (slice at end s)
+      filled-no k q w = refuses k q (field-no s place end v low r o k q w)
 
-      module _ (i : FieldInside (length s) place end low (f .content .step) f) (y : ℕ) (w : f .content .step ≡ Step.Past y) where
-        kept : FieldKept (length s) place end low f
-        kept = field-kept (length s) place end low y f i w
+      module _ (row n b x : ℕ) (w : r ≡ FieldHead.Is row n b x) (i : code.Row) (qi : ofRow i ≡ rowAt row) where
+        f : FieldAt s place end v low row n b x
+        f = field-at s place end v low r o row n b x w
 
-        one : readField asPlace v low place (slice place end s) ≡ got (taken (field (f .number) (contentValue (rowAt (f .row) .kind) (f .content))) (f .stop) (slice (f .stop) end s))
-        one = sym (subst (λ (t : Step). ofField s end t f ≡ readField asPlace v low place (slice place end s)) w e)
+        kind : ofKind (i .kind) ≡ rowAt row .kind
+        kind = ap (λ (q : table.Row). q .kind) qi
 
-        gone : fieldsOf (withField l (f .row) (f .content)) placeAt ≡ fieldsOf l placeAt ++ (field (f .number) (contentValue (rowAt (f .row) .kind) (f .content)) ∷ [])
-        gone =
-            let t = kept .inTable in
-            let m : rowAt (f .row) .number ≡ f .number = kept .isRow in
-            upTo-one (fieldAt l placeAt) (fieldAt (withField l (f .row) (f .content)) placeAt) 42 (f .row) t
-            (λ k b ne. stored-other l (f .row) (f .content) (g .bounds .sized) t k b ne)
-            (λ k p b. g .absent k b (upper k p b))
-            ∙ rw (stored-same l (f .row) (f .content) (g .bounds .sized) t, m) refl
-          where
-            upper : (k : ℕ) → f .row ≤ k → k < 42 → low ≤ rowAt k .number
-            upper k p b = by-le k (f .row) (λ q. let e : k ≡ f .row = omega arith in rw e (omega (arith, kept .isRow, kept .above))) (λ q. omega (arith, above (f .row) k q b, kept .isRow, kept .above))
+        reads : (M : Answer (ValueWith Place)) → M ≡ readValue asPlace v (ofKind (i .kind)) place b (slice b x s)
+            → readField asPlace v low place (slice place end s) ≡ bind M (λ (y : ValueWith Place). got (taken (field n y) x (slice x end s)))
+        reads M e = f .reads ∙ rw (← kind, ← e) refl
 
-        filled-more : Filled s at end v (withField l (f .row) (f .content)) (f .stop) (f .number + 1)
-        filled-more =
-            let t = kept .inTable in
-            let m : rowAt (f .row) .number ≡ f .number = kept .isRow in
-            record {
-              from = omega (arith, g .from, kept .onward);
-              to = kept .inside;
-              absent = λ k b p. stored-other l (f .row) (f .content) (g .bounds .sized) t k b (λ q. absurd (omega (arith, m, ap (λ (j : ℕ). rowAt j .number) q))) ∙ g .absent k b (omega (arith, kept .above));
-              ahead = rw gone (ahead-more (readField asPlace v) afterField s end fit _ (fieldsOf l placeAt) low place (g .ahead) (f .stop) (field (f .number) (contentValue (rowAt (f .row) .kind) (f .content))) h (kept .onward) one);
-              bounds = stored-in (length s) l (f .row) (f .content) t (g .bounds) (kept .bounds);
-            }
+        content-no : (k q : ℕ) → refused k q ≡ readValue asPlace v (ofKind (i .kind)) place b (slice b x s) → refused k q ≡ fieldsFrom v at (slice at end s)
+        unfolding bind
+        content-no k q e = refuses k q (reads (refused k q) e)
 
-        as-stored : (m : FieldList) → m ≡ withField l (f .row) (f .content) → Filled s at end v m (f .stop) (f .number + 1)
-        as-stored m q = subst (λ (k : FieldList). Filled s at end v k (f .stop) (f .number + 1)) (sym q) filled-more
+        module _ (c : Stored) (e : got (contentValue (ofKind (i .kind)) c) ≡ readValue asPlace v (ofKind (i .kind)) place b (slice b x s)) (d : ContentKept (ofKind (i .kind)) (length s) c) where
+          one : readField asPlace v low place (slice place end s) ≡ got (taken (field n (contentValue (rowAt row .kind) c)) x (slice x end s))
+          unfolding bind
+          one = rw kind at (reads (got (contentValue (ofKind (i .kind)) c)) e)
 
-        pub filled-purpose : f .row ≡ 0 → Filled s at end v (stored l (f .row) (f .content) (f .content .set) (l .digest) (l .padding) (l .mgf) (l .root)) (f .stop) (f .number + 1)
+          gone : fieldsOf (withField l row c) placeAt ≡ fieldsOf l placeAt ++ (field n (contentValue (rowAt row .kind) c) ∷ [])
+          gone =
+              let t = f .inTable in
+              let m : rowAt row .number ≡ n = f .isRow in
+              upTo-one (fieldAt l placeAt) (fieldAt (withField l row c) placeAt) 42 row t
+              (λ k b ne. stored-other l row c (g .bounds .sized) t k b ne)
+              (λ k p b. g .absent k b (upper k p b))
+              ∙ rw (stored-same l row c (g .bounds .sized) t, m) refl
+            where
+              upper : (k : ℕ) → row ≤ k → k < 42 → low ≤ rowAt k .number
+              upper k p b = by-le k row (λ q. let e : k ≡ row = omega arith in rw e (omega (arith, f .isRow, f .above))) (λ q. omega (arith, above row k q b, f .isRow, f .above))
+
+          filled-more : Filled s at end v (withField l row c) x (n + 1)
+          filled-more =
+              let t = f .inTable in
+              let m : rowAt row .number ≡ n = f .isRow in
+              let z : place < x = omega (arith, f .body, f .stop) in
+              record {
+                from = omega (arith, g .from);
+                to = f .inside;
+                absent = λ k b p. stored-other l row c (g .bounds .sized) t k b (λ q. absurd (omega (arith, m, ap (λ (j : ℕ). rowAt j .number) q))) ∙ g .absent k b (omega (arith, f .above));
+                ahead = rw gone (ahead-more (readField asPlace v) afterField s end fit _ (fieldsOf l placeAt) low place (g .ahead) x (field n (contentValue (rowAt row .kind) c)) h z one);
+                bounds = stored-in (length s) l row c t (g .bounds) (subst (λ (k : Kind). ContentKept k (length s) c) kind d);
+              }
+
+          as-stored : (m : FieldList) → m ≡ withField l row c → Filled s at end v m x (n + 1)
+          as-stored m q = subst (λ (k : FieldList). Filled s at end v k x (n + 1)) (sym q) filled-more
+
+        -- ---- a plain field: its row is none of those with a place of their own
+
+        plainly : (p : Plain) → isPlain (ofKind (i .kind)) ≡ true → PlainRead (ofKind (i .kind)) b (slice b x s) p
+            → ofPlain (λ y z. contentValue (ofKind (i .kind)) (plainContent y z)) p ≡ readValue asPlace v (ofKind (i .kind)) place b (slice b x s)
+        plainly p y a = a y v place
+
+        pub plain-no : (k q : ℕ) (p : Plain) → OneOf (1 ∷ 2 ∷ 3 ∷ 4 ∷ []) (tagOf kinds.the-type (i .kind)) → PlainRead (ofKind (i .kind)) b (slice b x s) p → p ≡ Plain.Refused k q → refused k q ≡ fieldsFrom v at (slice at end s)
+        plain-no k q p y a u = content-no k q (rw u at (plainly p (is-plain (i .kind) y) a))
+
+        pub plain-is : (y z : ℕ) (p : Plain) → OneOf (1 ∷ 2 ∷ 3 ∷ 4 ∷ []) (tagOf kinds.the-type (i .kind)) → PlainRead (ofKind (i .kind)) b (slice b x s) p → PlainKept (ofKind (i .kind)) (length s) p → p ≡ Plain.Is y z
+            → Filled s at end v (stored l row y z (l .purpose) (l .digest) (l .padding) (l .mgf) (l .root)) x (n + 1)
         unfolding pick
-        filled-purpose q = as-stored _ (rw q refl)
+        plain-is y z p j a d u =
+            let t = is-plain (i .kind) j in
+            let ne = plain-row row (rw kind at t) in
+            as-stored (plainContent y z) (rw u at (plainly p t a)) (subst (λ (u : Plain). PlainIn (usesValue (ofKind (i .kind))) (usesSize (ofKind (i .kind))) (length s) u) u (d t)) _
+            (rw (ne-eqb row 0 (ne .0), ne-eqb row 3 (ne .1), ne-eqb row 4 (ne .2), ne-eqb row 7 (ne .3), ne-eqb row 26 (ne .4)) refl)
 
-        pub filled-digest : f .row ≡ 3 → Filled s at end v (stored l (f .row) (f .content) (l .purpose) (f .content .set) (l .padding) (l .mgf) (l .root)) (f .stop) (f .number + 1)
-        unfolding pick
-        filled-digest q = as-stored _ (rw q refl)
+        -- ---- a set, in the place of its row
 
-        pub filled-padding : f .row ≡ 4 → Filled s at end v (stored l (f .row) (f .content) (l .purpose) (l .digest) (f .content .set) (l .mgf) (l .root)) (f .stop) (f .number + 1)
-        unfolding pick
-        filled-padding q = as-stored _ (rw q refl)
+        module _ (ks : i .kind ≡ codeKind.Set) (u : Step) (m : NumberSet) (a : ofStepped u (membersOf m) ≡ exactly 9 readSet b (slice b x s)) where
+          pub set-no : (k q : ℕ) → u ≡ Step.Refused k q → refused k q ≡ fieldsFrom v at (slice at end s)
+          set-no k q z = content-no k q (rw z at (as-set s b x (i .kind) ks u m a v place))
 
-        pub filled-mgf : f .row ≡ 7 → Filled s at end v (stored l (f .row) (f .content) (l .purpose) (l .digest) (l .padding) (f .content .set) (l .root)) (f .stop) (f .number + 1)
-        unfolding pick
-        filled-mgf q = as-stored _ (rw q refl)
+          module _ (y : ℕ) (z : u ≡ Step.Past y) (sl : StepSlots u m) where
+            set-stored : (j : FieldList) → j ≡ withField l row (setStored m) → Filled s at end v j x (n + 1)
+            set-stored = as-stored (setStored m) (rw z at (as-set s b x (i .kind) ks u m a v place)) (rw ks (set-in (length s) y u m sl z))
 
-        pub filled-root : f .row ≡ 26 → Filled s at end v (stored l (f .row) (f .content) (l .purpose) (l .digest) (l .padding) (l .mgf) (f .content .root)) (f .stop) (f .number + 1)
-        unfolding pick
-        filled-root q = as-stored _ (rw q refl)
+            pub set-purpose : row ≡ 0 → Filled s at end v (stored l row 0 0 m (l .digest) (l .padding) (l .mgf) (l .root)) x (n + 1)
+            unfolding pick
+            set-purpose q = set-stored _ (rw q refl)
 
-        pub filled-plain : (f .row ≡ 0 → ⊥) → (f .row ≡ 3 → ⊥) → (f .row ≡ 4 → ⊥) → (f .row ≡ 7 → ⊥) → (f .row ≡ 26 → ⊥)
-            → Filled s at end v (stored l (f .row) (f .content) (l .purpose) (l .digest) (l .padding) (l .mgf) (l .root)) (f .stop) (f .number + 1)
-        unfolding pick
-        filled-plain a₀ a₃ a₄ a₇ a₂₆ = as-stored _ (rw (ne-eqb (f .row) 0 a₀, ne-eqb (f .row) 3 a₃, ne-eqb (f .row) 4 a₄, ne-eqb (f .row) 7 a₇, ne-eqb (f .row) 26 a₂₆) refl)
+            pub set-digest : row ≡ 3 → Filled s at end v (stored l row 0 0 (l .purpose) m (l .padding) (l .mgf) (l .root)) x (n + 1)
+            unfolding pick
+            set-digest q = set-stored _ (rw q refl)
+
+            pub set-padding : row ≡ 4 → Filled s at end v (stored l row 0 0 (l .purpose) (l .digest) m (l .mgf) (l .root)) x (n + 1)
+            unfolding pick
+            set-padding q = set-stored _ (rw q refl)
+
+            seven : (row ≡ 0 → ⊥) → (row ≡ 3 → ⊥) → (row ≡ 4 → ⊥) → row ≡ 7
+            seven a₀ a₃ a₄ = by-set row (f .inTable) (sym (rw ks at kind)) (λ q. absurd (a₀ q)) (λ q. absurd (a₃ q)) (λ q. absurd (a₄ q)) (λ q. q)
+
+            pub set-mgf : (row ≡ 0 → ⊥) → (row ≡ 3 → ⊥) → (row ≡ 4 → ⊥) → Filled s at end v (stored l row 0 0 (l .purpose) (l .digest) (l .padding) m (l .root)) x (n + 1)
+            unfolding pick
+            set-mgf a₀ a₃ a₄ = set-stored _ (rw (seven a₀ a₃ a₄) refl)
+
+        -- ---- 704
+
+        module _ (ks : i .kind ≡ codeKind.Root) (u : Root) (a : ofTrust u ≡ exactly 9 (readRoot asPlace (leb 3 v)) b (slice b x s)) where
+          pub root-no : (k q : ℕ) → u ≡ Root.Refused k q → refused k q ≡ fieldsFrom v at (slice at end s)
+          root-no k q z = content-no k q (rw z at (as-root s b x (i .kind) ks v place u a))
+
+          pub root-is : (m : RootOfTrust) (y : ℕ) → RootKept (length s) (leb 3 v) u → u ≡ Root.Is m y → Filled s at end v (stored l row 0 0 (l .purpose) (l .digest) (l .padding) (l .mgf) m) x (n + 1)
+          unfolding pick
+          root-is m y d z =
+              let q : row ≡ 26 = by-root row (f .inTable) (sym (rw ks at kind)) in
+              as-stored (rootStored m) (rw z at (as-root s b x (i .kind) ks v place u a)) (rw ks (root-in (length s) (leb 3 v) m y u d z)) _ (rw q refl)
 
   pub filled-in : (l : FieldList) (place low : ℕ) → Filled s at end v l place low → ListIn (length s) l
   filled-in l place low g = g .bounds

@@ -24,13 +24,12 @@ use Rattle.records.specs.declared.FieldList.{FieldList}
 use Rattle.records.specs.declared.NumberSet.{NumberSet}
 use Rattle.records.specs.declared.RootOfTrust.{RootOfTrust}
 use Rattle.records.specs.Empty.{emptySet, emptyRoot, emptyList}
-use Rattle.reader.specs.Content.{contentValue}
+use Rattle.reader.specs.Content.{Stored, contentValue}
 use Rattle.reader.specs.Lists.{withField}
-use Rattle.reader.specs.declared.content.ContentRead.{ContentRead}
 
 -- ---- a stored field
 
-module _ (l : FieldList) (r : ℕ) (c : ContentRead) (z : Sized l) (h : r < 42) where
+module _ (l : FieldList) (r : ℕ) (c : Stored) (z : Sized l) (h : r < 42) where
   same-set : rowAt r .kind ≡ table.set → setAt (withField l r c) (rowAt r .number) ≡ c .set
   unfolding rows pick
   same-set e = by-set r h e (λ q. rw q refl) (λ q. rw q refl) (λ q. rw q refl) (λ q. rw q refl)

@@ -1,30 +1,41 @@
 -- The short ways of the reader's leaves, in plain variables: what each takes is what the long way would. Assumes nothing.
 use mathlib.Core.Path.{_≡_, refl, sym, subst, _∙_}
-use mathlib.Core.List.{List}
+use mathlib.Core.List.{List, [], _∷_}
 use Prim.Native.Nat.{ℕ, _+_, _-_, _*_, _/_, _%_, _<_, _≤_}
 use native.Mathlib.Omega.{arith}
 use lib.Bits.{bitAnd}
-use lib.ListN.{length, getD}
-use lib.Seq.{slice}
+use lib.ListN.{length, getD, replicate, getD-replicate}
+use lib.Seq.{slice, getD-set-other}
 use Rattle.answer.specs.Answer.{got}
 use Rattle.codec.specs.Octets.{taken}
 use Rattle.codec.specs.Header.{identifier}
 use Rattle.codec.specs.Integer.{integerOf}
+use Rattle.codec.specs.Element.{exactly}
+use Rattle.schema.specs.Table.{top32}
+use Rattle.schema.specs.Decode.{readSet}
+use Rattle.records.specs.Content.{membersOf}
+use Rattle.records.specs.Slots.{SetInSlots}
+use Rattle.records.specs.Clear.{SpareClear}
+use Rattle.records.specs.declared.NumberSet.{NumberSet}
 use Rattle.der.specs.Short.{ShortIs, ShortAt, ExtentIs, ExtentAt, HeaderIs, HeaderAt}
 use Rattle.der.specs.declared.header.Header.{Header}
 use Rattle.der.specs.declared.header.Short.{Short}
 use Rattle.der.specs.declared.header.Extent.{Extent}
 use Rattle.der.proofs.Bits.{low5}
 use Rattle.der.proofs.Short.{short-one, short-of, extent-of, extent-short, header-is}
-use Rattle.reader.specs.Element.{opening, opened, openedAs, ElementInside, TaggedInside}
-use Rattle.reader.specs.Leaf.{readNumber, ShortNumber, NumberInside}
+use Rattle.reader.specs.Element.{opening, opened, openedAs}
+use Rattle.reader.specs.Leaf.{readNumber, ShortNumber}
+use Rattle.reader.specs.Set.{membersFrom, OneMember, setOfOne}
 use Rattle.reader.specs.declared.element.Element.{Element}
 use Rattle.reader.specs.declared.element.Tagged.{Tagged}
 use Rattle.reader.specs.declared.leaf.Value.{Value}
 use Rattle.reader.specs.declared.leaf.Number.{Number}
+use Rattle.reader.specs.declared.set.Step.{Step}
 use Rattle.reader.proofs.Open.{open-is, tagged-is}
 use Rattle.reader.proofs.Leaves.{number-is}
 use Rattle.reader.proofs.Spelled.{content-one}
+use Rattle.reader.proofs.Exact.{exact-whole}
+use Rattle.reader.proofs.Members.{gathered-none, gathered-more, gathered-all, set-is}
 
 -- ---- a header of two octets
 
@@ -87,3 +98,36 @@ module _ (s : List ℕ) (at end : ℕ) where
 
   pub tagged-within : (f n b x : ℕ) (r : Extent) → HeaderAt s at end f n r → r ≡ Extent.Is b x → (at < b) × ((b ≤ x) × (x ≤ end))
   tagged-within f n b x r i w = let j : HeaderIs s at end f n b x = subst (HeaderAt s at end f n) w i in omega (arith, j .from, j .size, j .to)
+
+-- ---- a set of one small number
+
+one-gathered : (s : List ℕ) (at end m : ℕ) → end ≤ length s → end - at ≡ 3 → getD s at 0 ≡ 2 → getD s (at + 1) 0 ≡ 1 → getD s (at + 2) 0 ≡ m → m < 128 → got (m ∷ []) ≡ membersFrom at (slice at end s)
+one-gathered s at end m fit l a b c h =
+    let k : ShortNumber s at end 2 m = subst (ShortNumber s at end 2) c (number-one s at end fit 2 (omega arith) (omega arith) (omega arith) a b) in
+    let e = number-short s at end fit 2 top32 m k h (omega arith) in
+    let g = gathered-none s at end fit (omega arith) in
+    gathered-all s at end fit _ (at + 3) (m + 1) 1
+    (gathered-more s at end fit (replicate 16 0) at 0 0 g (Number.Is m (at + 3)) (omega arith) (omega arith) e m (at + 3) (omega arith, omega arith) refl (omega arith)) (omega arith)
+
+pub one-member : (s : List ℕ) (at end : ℕ) → end ≤ length s → end - at ≡ 5 → getD s at 0 ≡ 49 → getD s (at + 1) 0 ≡ 3 → getD s (at + 2) 0 ≡ 2 → getD s (at + 3) 0 ≡ 1 → OneMember s at end (getD s (at + 4) 0)
+one-member s at end fit l a b c d m =
+    let n = getD s (at + 4) 0 in
+    let p : at + 2 + 1 ≡ at + 3 = omega arith in
+    let q : at + 2 + 2 ≡ at + 4 = omega arith in
+    let x : at + 2 + getD s (at + 1) 0 ≡ end = omega arith in
+    let i : HeaderIs s at end 1 17 (at + 2) end = rw x at (header-short s at end 1 17 fit (omega arith) a (omega arith) (omega arith) (omega arith) (omega arith)) in
+    let e = tagged-short s at end fit 1 17 (at + 2) end (Extent.Is (at + 2) end) i refl in
+    let g : got (n ∷ []) ≡ membersFrom (at + 2) (slice (at + 2) end s) = one-gathered s (at + 2) end n fit (omega arith) c (rw p d) (rw q refl) m in
+    sym (exact-whole readSet s at end fit (n ∷ []) end (sym (set-is s at end (Tagged.Is (at + 2) end) e (at + 2) end (Step.Past end) (setOfOne n) refl g refl)) refl)
+
+pub one-none : (s : List ℕ) (at end : ℕ) → OneMember s at end 128
+one-none s at end h = absurd (omega arith)
+
+pub one-set : (s : List ℕ) (at end n : ℕ) (g : NumberSet) → OneMember s at end n → n < 128 → g ≡ setOfOne n → got (membersOf g) ≡ exactly 9 readSet at (slice at end s)
+one-set s at end n g k h e = rw e (k h)
+
+pub one-slots : (n : ℕ) (g : NumberSet) → g ≡ setOfOne n → SetInSlots g × SpareClear g
+one-slots n g e = rw e ((omega arith, refl), spare)
+  where
+    spare : SpareClear (setOfOne n)
+    spare k p q = getD-set-other (replicate 16 0) 0 k n 0 (λ u. absurd (omega arith)) ∙ getD-replicate {A = ℕ} 16 k 0 0 q

@@ -14,10 +14,10 @@ use Rattle.records.specs.Content.{fieldsOf}
 use Rattle.records.specs.declared.FieldList.{FieldList}
 use Rattle.records.specs.Empty.{emptySet, emptyRoot}
 use Rattle.reader.specs.declared.set.Step.{Step}
-use Rattle.reader.specs.declared.content.ContentRead.{ContentRead}
+use Rattle.reader.specs.Content.{Stored}
 
 -- the list with row present, its number or part stored; a set and 704 in their own place
-abbrev pub withField : FieldList → ℕ → ContentRead → FieldList
+abbrev pub withField : FieldList → ℕ → Stored → FieldList
 withField l row c = record {
   present = set (l .present) row true;
   values = set (l .values) row (c .value);

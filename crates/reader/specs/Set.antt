@@ -1,14 +1,14 @@
 -- What the set's answers say in the definitions' terms.
 use mathlib.Core.Path.{_≡_}
-use mathlib.Core.List.{List}
+use mathlib.Core.List.{List, [], _∷_}
 use Prim.Native.Nat.{ℕ, _<_, _≤_}
 use lib.ListN.{replicate}
 use lib.Seq.{slice}
 use Rattle.answer.specs.Answer.{Answer, got, refused}
 use Rattle.codec.specs.Octets.{Taken, taken}
-use Rattle.codec.specs.Element.{chain}
+use Rattle.codec.specs.Element.{chain, exactly}
 use Rattle.schema.specs.Content.{afterMember}
-use Rattle.schema.specs.Decode.{readMember}
+use Rattle.schema.specs.Decode.{readMember, readSet}
 use Rattle.records.specs.Content.{membersOf}
 use Rattle.records.specs.declared.NumberSet.{NumberSet}
 use Rattle.reader.specs.declared.set.Step.{Step}
@@ -31,3 +31,11 @@ StepInside at end (Step.Refused k p) = Unit {0}
 abbrev pub StepAt : ℕ → Step → Type 0
 StepAt end (Step.Past x) = x ≡ end
 StepAt end (Step.Refused k p) = Unit {0}
+
+-- a set of one number below 128, in the five octets from `at` to end; of an answer from 128 on nothing is said, and the long way
+-- follows
+abbrev pub OneMember : List ℕ → ℕ → ℕ → ℕ → Type 0
+OneMember s at end n = n < 128 → got (n ∷ []) ≡ exactly 9 readSet at (slice at end s)
+
+abbrev pub setOfOne : ℕ → NumberSet
+setOfOne n = record { members = n ∷ replicate 15 0; count = 1 }

@@ -1,12 +1,13 @@
 // One list of fields: explicit tags in strictly ascending number, each one that the version holds.
-use crate::content::ContentRead;
-use crate::content::empty_root;
-use crate::content::plain;
-use crate::content::read_content;
+use crate::content::Plain;
+use crate::content::plain_content;
+use crate::content::root_content;
+use crate::content::set_content;
 use crate::element::Element;
 use crate::element::Tagged;
 use crate::element::open_element;
 use crate::element::open_tagged;
+use crate::root::Root;
 use crate::set::Step;
 use crate::set::empty_set;
 use answer::FIELD_ORDER;
@@ -17,6 +18,9 @@ use der::header::Short;
 use der::header::read_extent;
 use der::header::read_short;
 use records::FieldList;
+use records::Part;
+use records::RootOfTrust;
+use schema::Kind;
 use schema::ROWS;
 use schema::held;
 use schema::row_at;
@@ -25,12 +29,12 @@ ghost use mathlib.Core.Path.{_≡_};
 ghost use Prim.Native.Nat.{_≤_};
 ghost use lib.ListN.{length};
 ghost use lib.Seq.{slice};
-ghost use Rattle.schema.specs.Decode.{readField, readList, asPlace};
+ghost use Rattle.schema.specs.Decode.{readList, asPlace};
 ghost use Rattle.reader.specs.Set.{StepAt, StepInside};
 ghost use Rattle.reader.specs.Element.{opened, ofElement, ElementInside};
-ghost use Rattle.reader.specs.Fields.{FieldOpened, ofField, FieldInside};
+ghost use Rattle.reader.specs.Fields.{FieldOpened};
 ghost use Rattle.reader.specs.Lists.{fieldsFrom, ofFields, ofList};
-ghost use Rattle.records.specs.Empty.{emptyList};
+ghost use Rattle.records.specs.Empty.{emptyRoot, emptyList};
 ghost use Rattle.reader.specs.Inside.{ListIn};
 
 // A field: its row and number, and its content from body to stop; or a refusal with its place.
@@ -101,48 +105,23 @@ fn open_field(s: &[u8], at: usize, end: usize, version: u32, low: usize) -> Fiel
     }
 }
 
-// A field that was read: its row and number, where it stops, and its content; refused where its content is.
-pub(crate) struct FieldRead {
-    pub row: usize,
-    pub number: usize,
-    pub stop: usize,
-    pub content: ContentRead,
-}
-
-// "content, then 9 for an extra element": one field, up to its end.
-fn read_field(s: &[u8], at: usize, end: usize, version: u32, low: usize) -> FieldRead
-    requires { ⌜ end ≤ length (now s) ⌝ }
-    ensures is { λ r. ⌜ ofField (now (s .entry)) end (r .content .step) r ≡ readField asPlace version low at (slice at end (now (s .entry))) ⌝ }
-    ensures inside { λ r. ⌜ FieldInside (length (now (s .entry))) at end low (r .content .step) r ⌝ }
-{
-    match open_field(s, at, end, version, low) {
-        FieldHead::Refused(k, place) => FieldRead {
-            row: 0,
-            number: 0,
-            stop: at,
-            content: plain(Step::Refused(k, place), 0, 0),
-        },
-        FieldHead::Is {
-            row,
-            number,
-            body,
-            stop,
-        } => {
-            let kind = row_at(row).kind;
-            FieldRead {
-                row,
-                number,
-                stop,
-                content: read_content(s, body, stop, kind, 3 <= version),
-            }
-        }
-    }
-}
-
 // A list, and the next place; where it is refused, the fields up to there.
 pub(crate) struct ListRead {
     pub step: Step,
     pub list: FieldList,
+}
+
+fn empty_root() -> RootOfTrust
+    ensures { λ r. ⌜ r ≡ emptyRoot ⌝ }
+{
+    let none = Part { start: 0, len: 0 };
+    RootOfTrust {
+        key: none,
+        hash: none,
+        state: 0,
+        locked: false,
+        hashed: false,
+    }
 }
 
 pub(crate) fn empty_list() -> FieldList
@@ -172,32 +151,78 @@ fn read_fields(s: &[u8], at: usize, end: usize, version: u32) -> ListRead
     let mut place = at;
     let mut low: usize = 0;
     while place < end {
-        let field = read_field(s, place, end, version, low);
-        let content = field.content;
-        let step = content.step;
-        match step {
-            Step::Refused(k, fault) => {
+        match open_field(s, place, end, version, low) {
+            FieldHead::Refused(k, fault) => {
                 return ListRead {
                     step: Step::Refused(k, fault),
                     list,
                 };
             }
-            Step::Past(_) => {
-                let row = field.row;
-                let set = content.set;
-                let root = content.root;
-                list.present[row] = true;
-                list.values[row] = content.value;
-                list.sizes[row] = content.size;
-                place = field.stop;
-                low = field.number + 1;
-                match row {
-                    0 => list.purpose = set,
-                    3 => list.digest = set,
-                    4 => list.padding = set,
-                    7 => list.mgf = set,
-                    26 => list.root = root,
-                    _ => {}
+            FieldHead::Is {
+                row,
+                number,
+                body,
+                stop,
+            } => {
+                let kind = row_at(row).kind;
+                match kind {
+                    Kind::Set => {
+                        let content = set_content(s, body, stop);
+                        let set = content.set;
+                        let step = content.step;
+                        match step {
+                            Step::Refused(k, fault) => {
+                                return ListRead {
+                                    step: Step::Refused(k, fault),
+                                    list,
+                                };
+                            }
+                            Step::Past(_) => {
+                                list.present[row] = true;
+                                list.values[row] = 0;
+                                list.sizes[row] = 0;
+                                place = stop;
+                                low = number + 1;
+                                match row {
+                                    0 => list.purpose = set,
+                                    3 => list.digest = set,
+                                    4 => list.padding = set,
+                                    _ => list.mgf = set,
+                                }
+                            }
+                        }
+                    }
+                    Kind::Root => match root_content(s, body, stop, 3 <= version) {
+                        Root::Refused(k, fault) => {
+                            return ListRead {
+                                step: Step::Refused(k, fault),
+                                list,
+                            };
+                        }
+                        Root::Is(root, _) => {
+                            list.present[row] = true;
+                            list.values[row] = 0;
+                            list.sizes[row] = 0;
+                            list.root = root;
+                            place = stop;
+                            low = number + 1;
+                        }
+                    },
+                    _ => match plain_content(s, body, stop, kind) {
+                        Plain::Refused(k, fault) => {
+                            return ListRead {
+                                step: Step::Refused(k, fault),
+                                list,
+                            };
+                        }
+                        Plain::Is(value, size) => {
+                            list.present[row] = true;
+                            list.values[row] = value;
+                            list.sizes[row] = size;
+                            place = stop;
+                            low = number + 1;
+                        }
+                    },
                 }
             }
         }

@@ -11,7 +11,7 @@ ghost use Prim.Native.Nat.{_≤_};
 ghost use lib.ListN.{length};
 ghost use lib.Seq.{slice};
 ghost use Rattle.schema.specs.Decode.{readSet};
-ghost use Rattle.reader.specs.Set.{ofMembers, ofSet, membersFrom, StepAt, StepInside};
+ghost use Rattle.reader.specs.Set.{ofMembers, ofSet, membersFrom, OneMember, setOfOne, StepAt, StepInside};
 ghost use Rattle.records.specs.Empty.{emptySet};
 ghost use Rattle.reader.specs.Inside.{StepSlots};
 
@@ -95,5 +95,37 @@ pub(crate) fn read_set(s: &[u8], at: usize, end: usize) -> SetRead
             set: empty_set(),
         },
         Tagged::Is(body, stop) => read_members(s, body, stop),
+    }
+}
+
+// The member of a set of one number below 128, where that is all that stands from at to end; else 128.
+pub(crate) fn one_member(s: &[u8], at: usize, end: usize) -> u8
+    requires { ⌜ (at ≤ end) × (end ≤ length (now s)) ⌝ }
+    ensures { λ n. ⌜ OneMember (now (s .entry)) at end n ⌝ }
+{
+    if end - at != 5 {
+        return 128;
+    }
+    if s[at] != 49 {
+        return 128;
+    }
+    if s[at + 1] != 3 {
+        return 128;
+    }
+    if s[at + 2] != 2 {
+        return 128;
+    }
+    if s[at + 3] != 1 {
+        return 128;
+    }
+    s[at + 4]
+}
+
+pub(crate) fn set_of_one(member: u32) -> NumberSet
+    ensures { λ g. ⌜ g ≡ setOfOne member ⌝ }
+{
+    NumberSet {
+        members: [member, 0, 0, 0, 0, 0, 0, 0, 0, 0, 0, 0, 0, 0, 0, 0],
+        count: 1,
     }
 }

@@ -1,43 +1,34 @@
--- `set_content` meets its contract: one SET, and nothing after it. Assumes nothing.
-use Rattle.reader.proofs.Contents.{set-content-no, set-content-is}
-use Rattle.reader.proofs.Bounds.{none-in, set-in}
+-- `set_content` meets its contract: by the short way, or by the long one. Assumes nothing.
+use Rattle.reader.proofs.Shorts.{one-set, one-slots}
 use borrow.Author.Needs.{needs}
 use Rattle.reader.proofs.content.set_content.Statement.{statement}
 use Rattle.reader.proofs.content.set_content.Tie as tie
 
-read-set-requires : tie.Need-read-set-requires
-read-set-requires c κs = search needs
+one-member-requires : tie.Need-one-member-requires
+one-member-requires c κs = search needs
 
-enum-known-step : tie.Need-enum-known-step
-enum-known-step c = search needs
+cast-set-of-one : tie.Need-cast-set-of-one
+cast-set-of-one c = search needs
 
-plain-requires : tie.Need-plain-requires
-plain-requires c κs = search needs
-
-enum-known-step-2 : tie.Need-enum-known-step-2
-enum-known-step-2 c = search needs
-
-at-end-requires : tie.Need-at-end-requires
-at-end-requires c κs = search needs
-
-empty-root-requires : tie.Need-empty-root-requires
-empty-root-requires c κs = search needs
+set-of-one-requires : tie.Need-set-of-one-requires
+set-of-one-requires c κs = search needs
 
 returns : tie.Need-returns
-returns c = (search (set-content-no, set-content-is), search none-in)
+returns c = (search one-set, search one-slots)
+
+long-set-requires : tie.Need-long-set-requires
+long-set-requires c κs = search needs
 
 returns-2 : tie.Need-returns-2
-returns-2 c = (search set-content-is, search (none-in, set-in))
+returns-2 c = search needs
 
 pub set-content-spec : {M : Type 1} → statement M
 set-content-spec =
     tie.close
     (tie.spec
-    read-set-requires
-    enum-known-step
-    plain-requires
-    enum-known-step-2
-    at-end-requires
-    empty-root-requires
+    one-member-requires
+    cast-set-of-one
+    set-of-one-requires
     returns
+    long-set-requires
     returns-2)
