@@ -11,7 +11,7 @@ use records::RootOfTrust;
 use records::Security;
 use schema::Kind;
 use schema::Row;
-use shape::set_at;
+use shape::set_of;
 ghost use mathlib.Core.Path.{_≡_};
 ghost use mathlib.Core.List.{[], _∷_};
 ghost use Prim.Native.Nat.{_+_, _*_, _<_, _≤_};
@@ -202,7 +202,11 @@ fn put_value(out: &mut [u8], at: usize, s: &[u8], l: FieldList, place: usize, ro
 {
     let kind = row.kind;
     match kind {
-        Kind::Set => put_set(out, at, set_at(l, row.number)),
+        Kind::Set => put_set(
+            out,
+            at,
+            set_of(row.number, l.purpose, l.digest, l.padding, l.mgf),
+        ),
         Kind::Number32 => put_decimal(out, at, l.values[place]),
         Kind::Number64 => put_decimal(out, at, l.values[place]),
         Kind::Null => put_text(out, at, b"yes"),

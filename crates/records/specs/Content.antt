@@ -35,8 +35,11 @@ rootOf part r = record {
 }
 
 -- the set of a row, by its number: 1 purpose, 5 digest, 6 padding, 203 mgfDigest
+abbrev pub setOf : ℕ → NumberSet → NumberSet → NumberSet → NumberSet → NumberSet
+setOf n purpose digest padding mgf = pick (eqb n 1) purpose (pick (eqb n 5) digest (pick (eqb n 6) padding mgf))
+
 abbrev pub setAt : FieldList → ℕ → NumberSet
-setAt l n = pick (eqb n 1) (l .purpose) (pick (eqb n 5) (l .digest) (pick (eqb n 6) (l .padding) (l .mgf)))
+setAt l n = setOf n (l .purpose) (l .digest) (l .padding) (l .mgf)
 
 -- the value that row k has, were it present
 unfoldable pub valueAt : {O : Type 0} → FieldList → (ℕ → ℕ → O) → ℕ → Kind → ℕ → ValueWith O

@@ -22,7 +22,7 @@ use Rattle.records.specs.declared.NumberSet.{NumberSet}
 use Rattle.records.specs.declared.RootOfTrust.{RootOfTrust}
 use Rattle.records.specs.declared.FieldList.{FieldList}
 use Rattle.records.specs.declared.Record.{Record}
-use Rattle.records.specs.Content.{setAt}
+use Rattle.records.specs.Content.{setOf, setAt}
 use Rattle.records.specs.Rows.{allBelow}
 use Rattle.shape.specs.Plain.{plainShaped, rowPlain}
 use Rattle.records.specs.Shape.{memberShaped, setShaped, rootShaped, valueShaped, rowShaped, listShaped, headShaped, wellShapedRecord}
@@ -120,20 +120,20 @@ module _ (v : ℕ) (t : RootOfTrust) where
 -- ---- a row of a list
 
 -- the set of a number
-module _ (l : FieldList) (n : ℕ) where
-  pub set-purpose : n ≡ 1 → l .purpose ≡ setAt l n
+module _ (n : ℕ) (purpose digest padding mgf : NumberSet) where
+  pub set-purpose : n ≡ 1 → purpose ≡ setOf n purpose digest padding mgf
   unfolding pick
   set-purpose e = rw e refl
 
-  pub set-digest : n ≡ 5 → l .digest ≡ setAt l n
+  pub set-digest : n ≡ 5 → digest ≡ setOf n purpose digest padding mgf
   unfolding pick
   set-digest e = rw e refl
 
-  pub set-padding : n ≡ 6 → l .padding ≡ setAt l n
+  pub set-padding : n ≡ 6 → padding ≡ setOf n purpose digest padding mgf
   unfolding pick
   set-padding e = rw e refl
 
-  pub set-mgf : (n ≡ 1 → ⊥) → (n ≡ 5 → ⊥) → (n ≡ 6 → ⊥) → l .mgf ≡ setAt l n
+  pub set-mgf : (n ≡ 1 → ⊥) → (n ≡ 5 → ⊥) → (n ≡ 6 → ⊥) → mgf ≡ setOf n purpose digest padding mgf
   unfolding pick
   set-mgf a b d = rw (ne-eqb n 1 a, ne-eqb n 5 b, ne-eqb n 6 d) refl
 

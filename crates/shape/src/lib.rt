@@ -16,7 +16,7 @@ ghost use lib.Dec.{leb};
 ghost use Rattle.answer.specs.Answer.{pick};
 ghost use Rattle.schema.specs.Table.{rowCount, top32};
 ghost use Rattle.schema.specs.Rows.{ofKind};
-ghost use Rattle.records.specs.Content.{setAt};
+ghost use Rattle.records.specs.Content.{setOf};
 ghost use Rattle.records.specs.Rows.{allBelow};
 ghost use Rattle.records.specs.Shape.{setShaped, rootShaped, listShaped, headShaped, wellShapedRecord};
 ghost use Rattle.shape.specs.Plain.{plainShaped, rowPlain};
@@ -63,20 +63,26 @@ fn root_shaped(version: u32, t: RootOfTrust) -> bool
     version < 3
 }
 
-// The set of a row, by its number.
-pub fn set_at(l: FieldList, number: usize) -> NumberSet
-    ensures { λ g. ⌜ g ≡ setAt l number ⌝ }
+// The set of a row, by its number, of a list's four: a list goes by value, and is fourteen times as large as a set.
+pub fn set_of(
+    number: usize,
+    purpose: NumberSet,
+    digest: NumberSet,
+    padding: NumberSet,
+    mgf: NumberSet,
+) -> NumberSet
+    ensures { λ g. ⌜ g ≡ setOf number purpose digest padding mgf ⌝ }
 {
     if number == 1 {
-        return l.purpose;
+        return purpose;
     }
     if number == 5 {
-        return l.digest;
+        return digest;
     }
     if number == 6 {
-        return l.padding;
+        return padding;
     }
-    l.mgf
+    mgf
 }
 
 // A present number is within its top; what has its own place in a list is looked at there.

@@ -12,7 +12,7 @@ use records::RootOfTrust;
 use records::Security;
 use schema::Kind;
 use schema::ROWS;
-use shape::set_at;
+use shape::set_of;
 ghost use mathlib.Core.Path.{_≡_};
 ghost use Prim.Native.Nat.{_+_};
 ghost use Rattle.codec.specs.Integer.{integerElement};
@@ -141,7 +141,13 @@ fn fields_size(s: &[u8], l: FieldList) -> usize
             let kind = row.kind;
             match kind {
                 Kind::Set => {
-                    n = add(n, element_size(row.number, set_size(set_at(l, row.number))));
+                    n = add(
+                        n,
+                        element_size(
+                            row.number,
+                            set_size(set_of(row.number, l.purpose, l.digest, l.padding, l.mgf)),
+                        ),
+                    );
                     place += 1;
                 }
                 Kind::Root => {

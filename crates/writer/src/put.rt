@@ -10,7 +10,7 @@ use records::RootOfTrust;
 use records::Security;
 use schema::Kind;
 use schema::ROWS;
-use shape::set_at;
+use shape::set_of;
 use sizes::Sizes;
 use sizes::members_size;
 use sizes::plain_size;
@@ -230,7 +230,12 @@ fn put_fields(out: &mut [u8], at: usize, s: &[u8], l: FieldList) -> usize
             let kind = row.kind;
             match kind {
                 Kind::Set => {
-                    p = put_set_field(out, p, row.number, set_at(l, row.number));
+                    p = put_set_field(
+                        out,
+                        p,
+                        row.number,
+                        set_of(row.number, l.purpose, l.digest, l.padding, l.mgf),
+                    );
                     place += 1;
                 }
                 Kind::Root => {

@@ -7,8 +7,8 @@ use Rattle.listing.proofs.put_value.Tie as tie
 enum-told : tie.Need-enum-told
 enum-told c = search needs
 
-set-at-requires : tie.Need-set-at-requires
-set-at-requires c κs = search needs
+set-of-requires : tie.Need-set-of-requires
+set-of-requires c κs = search needs
 
 put-set-requires : tie.Need-put-set-requires
 put-set-requires c κs = search needs
@@ -49,17 +49,17 @@ put-text-requires c κs = search needs
 enum-told-5 : tie.Need-enum-told-5
 enum-told-5 c = search needs
 
-mul-t33 : tie.Need-mul-t33
-mul-t33 c = search needs
+mul-t36 : tie.Need-mul-t36
+mul-t36 c = search needs
 
-element-copy-out-t36 : tie.Need-element-copy-out-t36
-element-copy-out-t36 c = search needs
+element-copy-out-t39 : tie.Need-element-copy-out-t39
+element-copy-out-t39 c = search needs
 
-mul-t38 : tie.Need-mul-t38
-mul-t38 c = search needs
+mul-t41 : tie.Need-mul-t41
+mul-t41 c = search needs
 
-element-copy-out-t41 : tie.Need-element-copy-out-t41
-element-copy-out-t41 c = search needs
+element-copy-out-t44 : tie.Need-element-copy-out-t44
+element-copy-out-t44 c = search needs
 
 put-part-requires : tie.Need-put-part-requires
 put-part-requires c κs = search needs
@@ -111,7 +111,7 @@ put-value-spec =
     tie.close
     (tie.spec
     enum-told
-    set-at-requires
+    set-of-requires
     put-set-requires
     enum-told-2
     mul-put-decimal
@@ -125,10 +125,10 @@ put-value-spec =
     slice-aggregate-put-text
     put-text-requires
     enum-told-5
-    mul-t33
-    element-copy-out-t36
-    mul-t38
-    element-copy-out-t41
+    mul-t36
+    element-copy-out-t39
+    mul-t41
+    element-copy-out-t44
     put-part-requires
     enum-told-6
     put-root-requires

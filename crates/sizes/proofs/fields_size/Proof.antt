@@ -24,8 +24,8 @@ row-at-requires c κs = search needs
 enum-told : tie.Need-enum-told Inv-loop μ-loop
 enum-told c = search needs
 
-set-at-requires : tie.Need-set-at-requires Inv-loop μ-loop
-set-at-requires c κs = search needs
+set-of-requires : tie.Need-set-of-requires Inv-loop μ-loop
+set-of-requires c κs = search needs
 
 set-size-requires : tie.Need-set-size-requires Inv-loop μ-loop
 set-size-requires c κs = search needs
@@ -47,11 +47,11 @@ loop-again c =
     let e = c .before in
     let v = e .before in
     let g = v .before in
-    let m = g .before in
+    let m = g .before .before .before .before .before in
     let r = m .before .before in
     let k = r .before .before .before .before in
     let a = k .before .before .args in
-    let x = set-value (a .t2) (now (a .s)) (r .row-at .result .number) (k .loop .place) (r .row-at .result .kind) (g .set-at .result) (m .enum-told .given .1) (g .set-at .ensures) in
+    let x = set-value (a .t2) (now (a .s)) (r .row-at .result .number) (k .loop .place) (r .row-at .result .kind) (g .set-of .result) (m .enum-told .given .1) (g .set-of .ensures) in
     (search needs, fields-more (a .t2) (now (a .s)) (k .loop .place) (k .loop .n) (v .set-size .result) (e .element-size .result) (c .add .result) (r .row-at .result) _ (r .before .if1 .taken) (r .row-at .ensures) x (k .loop .inv .1) (v .set-size .ensures) (e .element-size .ensures) (c .add .ensures))
 
 enum-told-2 : tie.Need-enum-told-2 Inv-loop μ-loop
@@ -135,7 +135,7 @@ fields-size-spec =
     element-copy-out-if1
     row-at-requires
     enum-told
-    set-at-requires
+    set-of-requires
     set-size-requires
     element-size-requires
     add-requires

@@ -27,8 +27,8 @@ row-at-requires c κs = search needs
 enum-told : tie.Need-enum-told Inv-loop μ-loop
 enum-told c = search needs
 
-set-at-requires : tie.Need-set-at-requires Inv-loop μ-loop
-set-at-requires c κs = search needs
+set-of-requires : tie.Need-set-of-requires Inv-loop μ-loop
+set-of-requires c κs = search needs
 
 put-set-field-requires : tie.Need-put-set-field-requires Inv-loop μ-loop
 put-set-field-requires c κs = search field-number
@@ -43,11 +43,11 @@ loop-again : tie.Need-loop-again Inv-loop μ-loop
 loop-again c =
     let f = c .before .before in
     let g = f .before in
-    let m = g .before .before in
+    let m = g .before .before .before .before .before .before in
     let r = m .before .before in
     let k = r .before .before .before .before in
     let a = k .before .before .before .args in
-    let x = set-value (a .t4) (now (a .s)) (r .row-at .result .number) (k .loop .place) (r .row-at .result .kind) (g .set-at .result) (m .enum-told .given .1) (g .set-at .ensures) in
+    let x = set-value (a .t4) (now (a .s)) (r .row-at .result .number) (k .loop .place) (r .row-at .result .kind) (g .set-of .result) (m .enum-told .given .1) (g .set-of .ensures) in
     (search needs, search needs, fields-more (a .t4) (now (a .s)) (k .loop .place) (r .row-at .result) _ (r .before .if1 .taken) (r .row-at .ensures) x (k .loop .inv .2) (f .put-set-field .ensures))
 
 enum-told-2 : tie.Need-enum-told-2 Inv-loop μ-loop
@@ -128,7 +128,7 @@ put-fields-spec =
     element-copy-out-if1
     row-at-requires
     enum-told
-    set-at-requires
+    set-of-requires
     put-set-field-requires
     add-place
     loop-less
