@@ -1,22 +1,22 @@
-// The eight elements of a KeyDescription, into a record.
+// The eight elements of a KeyDescription but for its two lists: what stands before them, and the end after them.
+use crate::element::Tagged;
+use crate::element::open_tagged;
 use crate::fields::empty_list;
-use crate::fields::read_list;
 use crate::head::Head;
 use crate::head::read_head;
 use crate::set::Step;
+use answer::SPARE_BYTES;
+use answer::WRONG_ELEMENT;
+use der::walk::Limits;
+use der::walk::Walked;
 use records::Part;
 use records::Record;
 use records::Security;
 ghost use mathlib.Core.Path.{_≡_};
-ghost use Prim.Native.Nat.{_≤_};
-ghost use lib.ListN.{length};
-ghost use lib.Seq.{slice};
-ghost use Rattle.reader.specs.Set.{StepInside};
 ghost use Rattle.records.specs.Empty.{emptyRecord};
-ghost use Rattle.reader.specs.Eight.{refusedEight, readContent, ofEight};
-ghost use Rattle.reader.specs.Inside.{RecordIn};
+ghost use Rattle.reader.specs.Eight.{Opens, closedStep};
 
-// The eight, and the next place; where they are refused, a record of nothing.
+// The eight, and the next place. No function answers it any more: the law `refused-eight-in` (proofs/Bounds.antt) names it.
 pub(crate) struct EightRead {
     pub step: Step,
     pub said: Record,
@@ -42,57 +42,66 @@ pub fn empty_record() -> Record
     }
 }
 
-fn refused_eight(number: u8, place: usize) -> EightRead
-    ensures { λ r. ⌜ r ≡ refusedEight number place ⌝ }
+// All before the lists: the count of elements, the first six of the eight, the first list's place and where the eight are to
+// stop; or a refusal with its place.
+pub(crate) enum Opening {
+    Is {
+        count: usize,
+        attestation: Security,
+        keymint: Security,
+        challenge: Part,
+        unique: Part,
+        next: usize,
+        stop: usize,
+    },
+    Refused(u8, usize),
+}
+
+// The first pass, the outermost SEQUENCE, and the first six of the eight in it. No record is made here: an answer that held
+// one would be copied on its way out.
+pub(crate) fn read_opening(s: &[u8]) -> Opening
+    ensures { λ r. ⌜ Opens (now (s .entry)) r ⌝ }
 {
-    EightRead {
-        step: Step::Refused(number, place),
-        said: empty_record(),
+    match der::walk::walk(s, Limits::extension()) {
+        Walked::Refused(k, place) => Opening::Refused(k, place),
+        Walked::Accepted(count) => match open_tagged(s, 0, s.len(), 1, 16) {
+            Tagged::Refused(k, place) => Opening::Refused(k, place),
+            Tagged::Is(at, stop) => match read_head(s, at, stop) {
+                Head::Refused(k, place) => Opening::Refused(k, place),
+                Head::Is {
+                    attestation,
+                    keymint,
+                    challenge,
+                    unique,
+                    next,
+                } => Opening::Is {
+                    count,
+                    attestation,
+                    keymint,
+                    challenge,
+                    unique,
+                    next,
+                    stop,
+                },
+            },
+        },
     }
 }
 
-// The six before the lists, and the two lists as the version has them.
-pub(crate) fn read_eight(s: &[u8], at: usize, end: usize) -> EightRead
-    requires { ⌜ end ≤ length (now s) ⌝ }
-    ensures is { λ r. ⌜ ofEight (now (s .entry)) end (r .step) (r .said) ≡ readContent at (slice at end (now (s .entry))) ⌝ }
-    ensures inside { λ r. ⌜ StepInside at end (r .step) ⌝ }
-    ensures bounds { λ r. ⌜ RecordIn (length (now (s .entry))) (r .said) ⌝ }
+// After the second list: nothing more in the holder, which stops at stop, and nothing after that up to end.
+pub(crate) fn closed(step: Step, stop: usize, end: usize) -> Step
+    ensures { λ r. ⌜ r ≡ closedStep step stop end ⌝ }
 {
-    match read_head(s, at, end) {
-        Head::Refused(k, place) => refused_eight(k, place),
-        Head::Is {
-            attestation,
-            keymint,
-            challenge,
-            unique,
-            next,
-        } => {
-            let version = attestation.version;
-            let first = read_list(s, next, end, version);
-            let software = first.list;
-            let after = first.step;
-            match after {
-                Step::Refused(k, place) => refused_eight(k, place),
-                Step::Past(middle) => {
-                    let second = read_list(s, middle, end, version);
-                    let hardware = second.list;
-                    let last = second.step;
-                    match last {
-                        Step::Refused(k, place) => refused_eight(k, place),
-                        Step::Past(stop) => EightRead {
-                            step: Step::Past(stop),
-                            said: Record {
-                                attestation,
-                                keymint,
-                                challenge,
-                                unique,
-                                software,
-                                hardware,
-                            },
-                        },
-                    }
-                }
+    match step {
+        Step::Refused(k, place) => Step::Refused(k, place),
+        Step::Past(next) => {
+            if next != stop {
+                return Step::Refused(WRONG_ELEMENT, next);
             }
+            if stop != end {
+                return Step::Refused(SPARE_BYTES, stop);
+            }
+            Step::Past(end)
         }
     }
 }

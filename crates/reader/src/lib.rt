@@ -8,21 +8,16 @@ mod leaf;
 mod root;
 mod set;
 
+use crate::eight::Opening;
+use crate::eight::closed;
 pub use crate::eight::empty_record;
-use crate::eight::read_eight;
-use crate::element::Tagged;
-use crate::element::open_tagged;
+use crate::eight::read_opening;
+use crate::fields::read_list;
 use crate::set::Step;
-use answer::SPARE_BYTES;
-use answer::WRONG_ELEMENT;
-use der::walk::Limits;
-use der::walk::Walked;
 use records::Record;
 ghost use mathlib.Core.Path.{_≡_};
-ghost use lib.ListN.{length};
-ghost use Rattle.reader.specs.Reading.{ofReading, RefusedEmpty, Reads};
-ghost use Rattle.reader.specs.Eight.{refusedReading, readCounted};
-ghost use Rattle.reader.specs.Inside.{RecordIn};
+ghost use Rattle.reader.specs.Reading.{Reads};
+ghost use Rattle.reader.specs.Eight.{refusedReading};
 
 // Accepted, with the count of elements; or a refusal with its place.
 pub enum Outcome {
@@ -46,44 +41,51 @@ fn refused(number: u8, place: usize) -> Reading
     }
 }
 
-// The schema over bytes that the first pass accepted, with count elements.
-fn read_description(s: &[u8], count: usize) -> Reading
-    ensures is { λ r. ⌜ ofReading (r .outcome) (r .said) ≡ readCounted count (now (s .entry)) ⌝ }
-    ensures empty { λ r. ⌜ RefusedEmpty (r .outcome) (r .said) ⌝ }
-    ensures bounds { λ r. ⌜ RecordIn (length (now (s .entry))) (r .said) ⌝ }
+// Reads one extension: the first pass, and then the schema. Any bytes get an answer, and nothing lent is changed. The lists
+// are joined here, and the record made once: each function that handed it on would copy it.
+pub fn read(s: &[u8]) -> Reading
+    ensures { λ r. ⌜ Reads (now (s .entry)) (r .outcome) (r .said) ⌝ }
 {
-    let end = s.len();
-    match open_tagged(s, 0, end, 1, 16) {
-        Tagged::Refused(k, place) => refused(k, place),
-        Tagged::Is(body, stop) => {
-            let eight = read_eight(s, body, stop);
-            let said = eight.said;
-            let step = eight.step;
-            match step {
-                Step::Refused(k, place) => refused(k, place),
-                Step::Past(next) => {
-                    if next != stop {
-                        return refused(WRONG_ELEMENT, next);
-                    }
-                    if stop != end {
-                        return refused(SPARE_BYTES, stop);
-                    }
-                    Reading {
-                        outcome: Outcome::Accepted(count),
-                        said,
+    match read_opening(s) {
+        Opening::Refused(k, place) => return refused(k, place),
+        Opening::Is {
+            count,
+            attestation,
+            keymint,
+            challenge,
+            unique,
+            next,
+            stop,
+        } => {
+            let version = attestation.version;
+            let first = read_list(s, next, stop, version);
+            let after = first.step;
+            match after {
+                Step::Refused(k, place) => return refused(k, place),
+                Step::Past(middle) => {
+                    let second = read_list(s, middle, stop, version);
+                    let end = second.step;
+                    let last = closed(end, stop, s.len());
+                    match last {
+                        Step::Refused(k, place) => return refused(k, place),
+                        Step::Past(_) => {
+                            let software = first.list;
+                            let hardware = second.list;
+                            return Reading {
+                                outcome: Outcome::Accepted(count),
+                                said: Record {
+                                    attestation,
+                                    keymint,
+                                    challenge,
+                                    unique,
+                                    software,
+                                    hardware,
+                                },
+                            };
+                        }
                     }
                 }
             }
         }
-    }
-}
-
-// Reads one extension: the first pass, and then the schema. Any bytes get an answer, and nothing lent is changed.
-pub fn read(s: &[u8]) -> Reading
-    ensures { λ r. ⌜ Reads (now (s .entry)) (r .outcome) (r .said) ⌝ }
-{
-    match der::walk::walk(s, Limits::extension()) {
-        Walked::Refused(k, place) => refused(k, place),
-        Walked::Accepted(count) => read_description(s, count),
     }
 }
