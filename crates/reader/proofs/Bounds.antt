@@ -49,13 +49,12 @@ use Rattle.reader.specs.Root.{HashedAs, PartsIn}
 use Rattle.reader.specs.Lists.{withField}
 use Rattle.reader.specs.Head.{HeadInside}
 use Rattle.reader.specs.Reading.{ofReading, AcceptedSound}
-use Rattle.reader.specs.Eight.{refusedEight, refusedReading}
+use Rattle.reader.specs.Eight.{refusedReading}
 use Rattle.reader.specs.Inside.{StepSlots, ContentIn, ContentKept, PlainIn, PlainKept, RootKept, ListIn, RecordIn}
 use Rattle.reader.specs.declared.set.Step.{Step}
 use Rattle.reader.specs.declared.leaf.Octets as leaf
 use Rattle.reader.specs.declared.root.Root as roots
 use Rattle.reader.specs.declared.head.Head.{Head}
-use Rattle.reader.specs.declared.eight.EightRead.{EightRead}
 use Rattle.reader.specs.declared.content.Plain.{Plain}
 use Rattle.reader.specs.declared.Outcome.{Outcome}
 use Rattle.reader.specs.declared.Reading.{Reading}
@@ -254,9 +253,6 @@ module _ (n : ℕ) where
   list-inside l i = rw (all-of (rowInside l n) 42 (row-inside l i)) tt
 
   -- ---- the record
-
-  pub refused-eight-in : (k p : ℕ) (r : EightRead) → r ≡ refusedEight k p → RecordIn n (r .said)
-  refused-eight-in k p r e = rw e (record { challenge = omega arith; unique = omega arith; software = empty-in; hardware = empty-in })
 
   pub refused-in : (k p : ℕ) (r : Reading) → r ≡ refusedReading k p → RecordIn n (r .said)
   refused-in k p r e = rw e (record { challenge = omega arith; unique = omega arith; software = empty-in; hardware = empty-in })

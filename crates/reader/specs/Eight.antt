@@ -15,14 +15,9 @@ use Rattle.records.specs.Empty.{emptyRecord}
 use Rattle.reader.specs.Head.{Heading, heading, listsAfter, HeadInside}
 use Rattle.reader.specs.declared.set.Step.{Step}
 use Rattle.reader.specs.declared.head.Head.{Head}
-use Rattle.reader.specs.declared.eight.EightRead.{EightRead}
 use Rattle.reader.specs.declared.eight.Opening.{Opening}
 use Rattle.reader.specs.declared.Outcome.{Outcome}
 use Rattle.reader.specs.declared.Reading.{Reading}
-
--- named by `refused-eight-in` (proofs/Bounds.antt) alone
-abbrev pub refusedEight : ℕ → ℕ → EightRead
-refusedEight k p = record { step = Step.Refused k p; said = emptyRecord }
 
 abbrev pub refusedReading : ℕ → ℕ → Reading
 refusedReading k p = record { outcome = Outcome.Refused k p; said = emptyRecord }

@@ -16,12 +16,6 @@ ghost use mathlib.Core.Path.{_≡_};
 ghost use Rattle.records.specs.Empty.{emptyRecord};
 ghost use Rattle.reader.specs.Eight.{Opens, closedStep};
 
-// The eight, and the next place. No function answers it any more: the law `refused-eight-in` (proofs/Bounds.antt) names it.
-pub(crate) struct EightRead {
-    pub step: Step,
-    pub said: Record,
-}
-
 // A record that says nothing: what stands beside a refusal.
 pub fn empty_record() -> Record
     ensures { λ r. ⌜ r ≡ emptyRecord ⌝ }
