@@ -24,6 +24,7 @@ use Rattle.schema.proofs.Places.{octets-at-places}
 use Rattle.records.proofs.PlacesRead.{places-read}
 use Rattle.records.specs.Content.{contentOf}
 use Rattle.extension_text.specs.Bytes.{room, listedAs, leftAs, ListedWhole}
+use Rattle.codec.specs.Limits.{extensionBytes}
 
 -- the record read, as what it says in the bytes
 abbrev pub saidIn : List ℕ → Outcome → Record → Answer (Content × ℕ)
@@ -61,18 +62,18 @@ module _ (s out : List ℕ) (o : Outcome) (g : Record) {a : Answer (Content × �
 -- ---- how much room is enough
 
 -- over the limit of bytes nothing is read
-long-refused : (s : List ℕ) → 8192 < length s → read s ≡ refused 1 0
+long-refused : (s : List ℕ) → extensionBytes < length s → read s ≡ refused 1 0
 unfolding readWith firstPass guard bind
-long-refused s h = rw (lt-leb (length s) 8192 h) refl
+long-refused s h = rw (lt-leb (length s) extensionBytes h) refl
 
 -- so no answer asks for more than 8,192 bytes do
 room-most : (s : List ℕ) → room (read s) (length s) ≤ 491520
 room-most s =
-    by-le (length s) 8192
+    by-le (length s) extensionBytes
     (λ h. go (read s) h)
     (λ h. rw (long-refused s h) (omega arith))
   where
-    go : (a : Answer (Content × ℕ)) → length s ≤ 8192 → room a (length s) ≤ 491520
+    go : (a : Answer (Content × ℕ)) → length s ≤ extensionBytes → room a (length s) ≤ 491520
     go (got c) h = omega arith
     go (refused number place) h = omega arith
 

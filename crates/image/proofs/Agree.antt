@@ -18,8 +18,8 @@ use Rattle.records.specs.declared.FieldList.{FieldList}
 use Rattle.records.specs.declared.Record.{Record}
 use Rattle.records.specs.Content.{setAt}
 use Rattle.records.specs.Equal.{presentAt}
-use Rattle.image.specs.Image.{isSet, low, setFrom, rootFrom, listFrom, recordOf, narrowAt, flagAt, slotsBelow, setFits, rootFits, listFits, wordsFit}
-use Rattle.image.specs.Agree.{Same, SameSet, SameRoot, setPlace, SameValue, SameRow, Agree}
+use Rattle.image.specs.Image.{isSet, low, setFrom, rootFromWords, listFrom, recordOf, narrowAt, flagAt, slotsBelow, setFits, rootFits, listFits, wordsFit}
+use Rattle.image.specs.Agree.{Same, SameSet, SameRoot, setPlace, SameValue, SameRowWords, Agree}
 use Rattle.image.specs.Statements.{SameAnswers, NotLookedAt}
 use Rattle.image.proofs.Fits.{list-tests}
 use Rattle.image.proofs.RoundTrip.{slots-few, slots-count}
@@ -43,8 +43,8 @@ module _ (u u′ : List ℕ) where
         ∙ sym (List·getD-map low (take 16 u′) i 0));
   }
 
-  root-alike : SameRoot u u′ → AlikeRoot (rootFrom u) (rootFrom u′)
-  unfolding rootFrom
+  root-alike : SameRoot u u′ → AlikeRoot (rootFromWords u) (rootFromWords u′)
+  unfolding rootFromWords
   root-alike s = record {
     key = rw (s .words 0 (omega arith), s .words 1 (omega arith)) refl;
     locked = ap isSet (s .words 2 (omega arith));
@@ -95,7 +95,7 @@ module _ (u : List ℕ) where
       go false false true = refl
       go false false false = refl
 
-  root-at : listFrom u .root ≡ rootFrom (drop 194 u)
+  root-at : listFrom u .root ≡ rootFromWords (drop 194 u)
   unfolding listFrom
   root-at = refl
 
@@ -120,14 +120,14 @@ module _ (w w′ : List ℕ) (z : 201 ≤ length w) (z′ : 201 ≤ length w′)
       rw (set-at w n, set-at w′ n) (set-alike (drop (setPlace n) w) (drop (setPlace n) w′) (omega (arith, length-drop (setPlace n) w)) (omega (arith, length-drop (setPlace n) w′)) s)
   value-alike n k h root s = rw (root-at w, root-at w′) (root-alike (drop 194 w) (drop 194 w′) s)
 
-  row-alike : (k : ℕ) → k < 42 → SameRow w w′ k → AlikeRow (listFrom w) (listFrom w′) k
+  row-alike : (k : ℕ) → k < 42 → SameRowWords w w′ k → AlikeRow (listFrom w) (listFrom w′) k
   row-alike k h s = record {
     held = present-at w k h ∙ (ap isSet (s .flag) ∙ sym (present-at w′ k h));
     value = λ p. value-alike (rowAt k .number) k h (rowAt k .kind) (s .value (is-one (getD w k 0) (sym (present-at w k h) ∙ p)));
   }
 
 -- the rows of 1, 5, 6, 203 and 704
-module _ (w w′ : List ℕ) (s : (k : ℕ) → k < 42 → SameRow w w′ k) where
+module _ (w w′ : List ℕ) (s : (k : ℕ) → k < 42 → SameRowWords w w′ k) where
   list-fits-same : listFits w ≡ listFits w′
   unfolding rows pick
   list-fits-same =

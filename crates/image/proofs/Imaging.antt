@@ -12,7 +12,7 @@ use Rattle.codec.specs.Octets.{splice}
 use Rattle.records.specs.declared.Record.{Record}
 use Rattle.image.specs.declared.Imaged.{Imaged}
 use Rattle.image.specs.Image.{imageOf, recordOf, wordsFit, recordIn, ofImaged, nothing, RefusedNothing, imagePut}
-use Rattle.image.specs.Whole.{Whole}
+use Rattle.image.specs.Whole.{WholeRecord}
 
 module _ (w : List ℕ) where
   pub image-short : length w < 410 → {i : Imaged} → i ≡ nothing shortImage → (ofImaged i ≡ recordIn w) × RefusedNothing i
@@ -42,10 +42,10 @@ module _ (w : List ℕ) (i : Imaged) (e : ofImaged i ≡ recordIn w) where
 -- ---- the words put
 
 module _ (old : List ℕ) (r : Record) where
-  pub put-long : 410 ≤ length old → {new : List ℕ} → (new ≡ splice old 0 (imageOf r)) × Whole r → (new ≡ imagePut old r) × (410 ≤ length old → Whole r)
+  pub put-long : 410 ≤ length old → {new : List ℕ} → (new ≡ splice old 0 (imageOf r)) × WholeRecord r → (new ≡ imagePut old r) × (410 ≤ length old → WholeRecord r)
   unfolding imagePut pick
   put-long h (e, w) = (e ∙ rw (le-leb 410 (length old) h) refl, λ q. w)
 
-  pub put-short : length old < 410 → (old ≡ imagePut old r) × (410 ≤ length old → Whole r)
+  pub put-short : length old < 410 → (old ≡ imagePut old r) × (410 ≤ length old → WholeRecord r)
   unfolding imagePut pick
   put-short h = (rw (lt-leb 410 (length old) h) refl, λ q. absurd (omega arith))

@@ -10,7 +10,7 @@ use Rattle.records.specs.declared.NumberSet.{NumberSet}
 use Rattle.records.specs.declared.RootOfTrust.{RootOfTrust}
 use Rattle.records.specs.declared.FieldList.{FieldList}
 use Rattle.records.specs.declared.Record.{Record}
-use Rattle.image.specs.Image.{isSet, low, partFrom, securityFrom, setFrom, rootFrom, listFrom, recordOf}
+use Rattle.image.specs.Image.{isSet, low, partFrom, securityFrom, setFrom, rootFromWords, listFrom, recordOf}
 
 module _ (w : List ℕ) where
   pub set-made : {members : List ℕ} → members ≡ map low (take 16 w) → _≡_ {A = NumberSet} (record { members = members; count = getD w 16 0 }) (setFrom w)
@@ -18,14 +18,14 @@ module _ (w : List ℕ) where
   set-made e = rw e refl
 
   pub root-made : {key hash : Part} → key ≡ partFrom w 0 → hash ≡ partFrom w 5
-      → _≡_ {A = RootOfTrust} (record { key = key; locked = isSet (getD w 2 0); state = low (getD w 3 0); hashed = isSet (getD w 4 0); hash = hash }) (rootFrom w)
-  unfolding rootFrom
+      → _≡_ {A = RootOfTrust} (record { key = key; locked = isSet (getD w 2 0); state = low (getD w 3 0); hashed = isSet (getD w 4 0); hash = hash }) (rootFromWords w)
+  unfolding rootFromWords
   root-made p q = rw (p, q) refl
 
   pub list-made : {present : List Bool} {values sizes : List ℕ} {purpose digest padding mgf : NumberSet} {root : RootOfTrust}
       → present ≡ map isSet (take 42 w) → values ≡ take 42 (drop 42 w) → sizes ≡ take 42 (drop 84 w)
       → purpose ≡ setFrom (drop 126 w) → digest ≡ setFrom (drop 143 w) → padding ≡ setFrom (drop 160 w) → mgf ≡ setFrom (drop 177 w)
-      → root ≡ rootFrom (drop 194 w)
+      → root ≡ rootFromWords (drop 194 w)
       → _≡_ {A = FieldList} (record { present = present; values = values; sizes = sizes; purpose = purpose; digest = digest; padding = padding; mgf = mgf; root = root }) (listFrom w)
   unfolding listFrom
   list-made a b c d e f g h = rw (a, b, c, d, e, f, g, h) refl

@@ -11,7 +11,7 @@ use lib.Seq.{take-suc, take-all, length-take-le}
 use Rattle.codec.specs.Octets.{splice}
 use Rattle.codec.proofs.Splice.{splice-nothing, splice-one, splice-splice, length-splice, splice-stores}
 use Rattle.schema.specs.Table.{top32}
-use Rattle.image.specs.Whole.{WholeMembers, WholeSets, WholeList, WholeHead, Whole}
+use Rattle.image.specs.Whole.{WholeMembers, WholeSets, WholeList, WholeHead, WholeRecord}
 use Rattle.records.specs.declared.NumberSet.{NumberSet}
 use Rattle.records.specs.declared.RootOfTrust.{RootOfTrust}
 use Rattle.records.specs.declared.FieldList.{FieldList}
@@ -120,7 +120,7 @@ pub list-length : (l : FieldList) → WholeList l → length (listWords l) ≡ 2
 unfolding listWords
 list-length l w = simp (length-append, length-map) (omega (arith, w .present, w .values, w .sizes, sets-length l (w .sets), root-length (l .root)))
 
-pub image-length : (r : Record) → Whole r → length (imageOf r) ≡ 410
+pub image-length : (r : Record) → WholeRecord r → length (imageOf r) ≡ 410
 unfolding imageOf
 image-length r w = simp length-append (omega (arith, head-length r, list-length (r .software) (w .software), list-length (r .hardware) (w .hardware)))
 
@@ -174,7 +174,7 @@ pub image-put : (old : List ℕ) (r : Record) → 410 ≤ length old → {o1 o2 
     → (o1 ≡ splice old 0 (headWords r)) × WholeHead r
     → (o2 ≡ splice o1 8 (listWords (r .software))) × WholeList (r .software)
     → (new ≡ splice o2 209 (listWords (r .hardware))) × WholeList (r .hardware)
-    → (new ≡ splice old 0 (imageOf r)) × Whole r
+    → (new ≡ splice old 0 (imageOf r)) × WholeRecord r
 unfolding imageOf
 image-put old r h a b c =
     let n0 = head-length r in

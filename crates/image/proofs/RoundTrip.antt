@@ -19,8 +19,8 @@ use Rattle.records.specs.declared.NumberSet.{NumberSet}
 use Rattle.records.specs.declared.RootOfTrust.{RootOfTrust}
 use Rattle.records.specs.declared.FieldList.{FieldList}
 use Rattle.records.specs.declared.Record.{Record}
-use Rattle.image.specs.Image.{flagWord, isSet, low, slotsBelow, setWords, rootWords, setsWords, listWords, headWords, imageOf, setFrom, rootFrom, listFrom, recordOf, flagAt, narrowAt, setFits, rootFits, listFits, wordsFit}
-use Rattle.image.specs.Whole.{WholeMembers, WholeSets, WholeList, WholeHead, Whole}
+use Rattle.image.specs.Image.{flagWord, isSet, low, slotsBelow, setWords, rootWords, setsWords, listWords, headWords, imageOf, setFrom, rootFromWords, listFrom, recordOf, flagAt, narrowAt, setFits, rootFits, listFits, wordsFit}
+use Rattle.image.specs.Whole.{WholeMembers, WholeSets, WholeList, WholeHead, WholeRecord}
 use Rattle.image.specs.Statements.{RecordBack}
 use Rattle.image.proofs.Parts.{set-made, root-made, list-made, record-made}
 use Rattle.image.proofs.Puts.{set-length, list-length}
@@ -100,8 +100,8 @@ module _ (g : NumberSet) (rest : List ℕ) (w : WholeMembers (g .members)) where
 -- ---- a root of trust
 
 module _ (t : RootOfTrust) (rest : List ℕ) where
-  pub root-back : t .state ≤ top32 → rootFrom (rootWords t ++ rest) ≡ t
-  unfolding rootFrom rootWords
+  pub root-back : t .state ≤ top32 → rootFromWords (rootWords t ++ rest) ≡ t
+  unfolding rootFromWords rootWords
   root-back h = rw (set-flag (t .locked), low-same (t .state) h, set-flag (t .hashed)) refl
 
   pub root-fits : t .state ≤ top32 → (flag : ℕ) → rootFits flag (rootWords t ++ rest) ≡ true
@@ -168,7 +168,7 @@ module _ (l : FieldList) (rest : List ℕ) (w : WholeList l) where
       (sym (ap setFrom past-purpose ∙ set-back (l .digest) r5 (w .sets .digest)))
       (sym (ap setFrom past-digest ∙ set-back (l .padding) r6 (w .sets .padding)))
       (sym (ap setFrom past-padding ∙ set-back (l .mgf) r7 (w .sets .mgf)))
-      (sym (ap rootFrom past-mgf ∙ root-back (l .root) rest (w .state))))
+      (sym (ap rootFromWords past-mgf ∙ root-back (l .root) rest (w .state))))
 
   pub list-fits : listFits (listWords l ++ rest) ≡ true
   list-fits =
@@ -189,7 +189,7 @@ unfolding allBelow headWords
 head-fits r rest w =
     rw (le-leb (r .attestation .version) top32 (w .version), le-leb (r .attestation .level) top32 (w .level), le-leb (r .keymint .version) top32 (w .keymint), le-leb (r .keymint .level) top32 (w .keymintLevel)) refl
 
-module _ (r : Record) (rest : List ℕ) (w : Whole r) where
+module _ (r : Record) (rest : List ℕ) (w : WholeRecord r) where
   abbrev image : List ℕ
   image = imageOf r ++ rest
 

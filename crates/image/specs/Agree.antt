@@ -36,7 +36,7 @@ SameValue set w w′ n k = SameSet (drop (setPlace n) w) (drop (setPlace n) w′
 SameValue root w w′ n k = SameRoot (drop 194 w) (drop 194 w′)
 
 -- of row k, whether its field is there, and then its words
-pub record SameRow (w w′ : List ℕ) (k : ℕ) : Type 0 where
+pub record SameRowWords (w w′ : List ℕ) (k : ℕ) : Type 0 where
   pub flag : Same w w′ k
   pub value : getD w k 0 ≡ 1 → SameValue (rowAt k .kind) w w′ (rowAt k .number) k
 
@@ -45,5 +45,5 @@ pub record Agree (w w′ : List ℕ) : Type 0 where
   pub long : 410 ≤ length w
   pub long′ : 410 ≤ length w′
   pub head : (k : ℕ) → k < 8 → Same w w′ k
-  pub software : (k : ℕ) → k < 42 → SameRow (drop 8 w) (drop 8 w′) k
-  pub hardware : (k : ℕ) → k < 42 → SameRow (drop 209 w) (drop 209 w′) k
+  pub software : (k : ℕ) → k < 42 → SameRowWords (drop 8 w) (drop 8 w′) k
+  pub hardware : (k : ℕ) → k < 42 → SameRowWords (drop 209 w) (drop 209 w′) k

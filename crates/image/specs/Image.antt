@@ -91,8 +91,8 @@ partFrom w k = record { start = getD w k 0; len = getD w (k + 1) 0 }
 abbrev pub securityFrom : List ℕ → ℕ → Security
 securityFrom w k = record { version = low (getD w k 0); level = low (getD w (k + 1) 0) }
 
-unfoldable pub rootFrom : List ℕ → RootOfTrust
-rootFrom w = record {
+unfoldable pub rootFromWords : List ℕ → RootOfTrust
+rootFromWords w = record {
   key = partFrom w 0;
   locked = isSet (getD w 2 0);
   state = low (getD w 3 0);
@@ -109,7 +109,7 @@ listFrom w = record {
   digest = setFrom (drop 143 w);
   padding = setFrom (drop 160 w);
   mgf = setFrom (drop 177 w);
-  root = rootFrom (drop 194 w);
+  root = rootFromWords (drop 194 w);
 }
 
 unfoldable pub recordOf : List ℕ → Record

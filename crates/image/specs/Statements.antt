@@ -10,16 +10,16 @@ use Rattle.records.specs.Content.{placesOf}
 use Rattle.records.specs.Shape.{wellShapedRecord}
 use Rattle.records.specs.Parts.{partsInside}
 use Rattle.image.specs.Image.{imageOf, recordOf, wordsFit}
-use Rattle.image.specs.Whole.{Whole}
+use Rattle.image.specs.Whole.{WholeRecord}
 use Rattle.image.specs.Agree.{Agree}
 
 -- record, image, record: nothing of a record as the code has it is lost, whatever follows its words
 abbrev pub RecordBack : Type 0
-RecordBack = (r : Record) (rest : List ℕ) → Whole r → recordOf (imageOf r ++ rest) ≡ r
+RecordBack = (r : Record) (rest : List ℕ) → WholeRecord r → recordOf (imageOf r ++ rest) ≡ r
 
 -- image, record, image: not one word is lost, where they are those of a record
 abbrev pub ImageAgain : Type 0
-ImageAgain = (w : List ℕ) (r : Record) (rest : List ℕ) → Whole r → w ≡ imageOf r ++ rest → imageOf (recordOf w) ≡ take 410 w
+ImageAgain = (w : List ℕ) (r : Record) (rest : List ℕ) → WholeRecord r → w ≡ imageOf r ++ rest → imageOf (recordOf w) ≡ take 410 w
 
 -- all that is asked of an image's record
 pub record SameAnswers (w w′ : List ℕ) : Type 0 where

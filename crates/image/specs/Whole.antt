@@ -34,7 +34,7 @@ pub record WholeHead (r : Record) : Type 0 where
   pub keymint : r .keymint .version ≤ top32
   pub keymintLevel : r .keymint .level ≤ top32
 
-pub record Whole (r : Record) : Type 0 where
+pub record WholeRecord (r : Record) : Type 0 where
   pub head : WholeHead r
   pub software : WholeList (r .software)
   pub hardware : WholeList (r .hardware)

@@ -9,7 +9,7 @@ ghost use mathlib.Core.Path.{_≡_};
 ghost use mathlib.Core.List.{map};
 ghost use Prim.Native.Nat.{_+_, _≤_};
 ghost use lib.ListN.{length, take};
-ghost use Rattle.image.specs.Image.{isSet, low, partFrom, securityFrom, setFrom, rootFrom, listFrom, recordOf};
+ghost use Rattle.image.specs.Image.{isSet, low, partFrom, securityFrom, setFrom, rootFromWords, listFrom, recordOf};
 
 fn flags_from(words: &[u64]) -> [bool; 42]
     requires { ⌜ 42 ≤ length (now words) ⌝ }
@@ -74,7 +74,7 @@ fn part_from(words: &[u64], at: usize) -> Part
 
 fn root_from(words: &[u64]) -> RootOfTrust
     requires { ⌜ 7 ≤ length (now words) ⌝ }
-    ensures { λ t. ⌜ t ≡ rootFrom (now (words .entry)) ⌝ }
+    ensures { λ t. ⌜ t ≡ rootFromWords (now (words .entry)) ⌝ }
 {
     let key = part_from(words, 0);
     let hash = part_from(words, 5);

@@ -13,7 +13,7 @@ ghost use mathlib.Core.Path.{_≡_};
 ghost use Prim.Native.Nat.{_≤_};
 ghost use lib.ListN.{length};
 ghost use Rattle.image.specs.Image.{recordIn, ofImaged, nothing, RefusedNothing, imagePut};
-ghost use Rattle.image.specs.Whole.{Whole};
+ghost use Rattle.image.specs.Whole.{WholeRecord};
 
 // The record of an image where refusal is 0. It is 200 where the image has too few words and 20 where one that is looked
 // at is that of no record; the record then says nothing.
@@ -53,7 +53,7 @@ pub fn record_of(image: &[u64]) -> Imaged
 // The words of a record into the first 410 of out; nothing where it has fewer. What stands after them stays.
 pub fn put_image(out: &mut [u64], r: Record)
     ensures is { λ _. ⌜ now (out .exit) ≡ imagePut (now (out .entry)) r ⌝ }
-    ensures whole { λ _. ⌜ (410 ≤ length (now (out .entry)) → Whole r) ⌝ }
+    ensures whole { λ _. ⌜ (410 ≤ length (now (out .entry)) → WholeRecord r) ⌝ }
 {
     if 410 <= out.len() {
         put_words(out, r);

@@ -9,7 +9,7 @@ ghost use Prim.Native.Nat.{_+_, _≤_};
 ghost use lib.ListN.{length};
 ghost use Rattle.codec.specs.Octets.{splice};
 ghost use Rattle.schema.specs.Table.{top32};
-ghost use Rattle.image.specs.Whole.{WholeMembers, WholeSets, WholeList, WholeHead, Whole};
+ghost use Rattle.image.specs.Whole.{WholeMembers, WholeSets, WholeList, WholeHead, WholeRecord};
 ghost use Rattle.image.specs.Image.{flagWord, setWords, rootWords, headWords, setsWords, listWords, imageOf};
 
 fn put_flags(out: &mut [u64], at: usize, flags: [bool; 42])
@@ -128,7 +128,7 @@ fn put_head(out: &mut [u64], r: Record)
 pub(crate) fn put_words(out: &mut [u64], r: Record)
     requires { ⌜ 410 ≤ length (now out) ⌝ }
     ensures is { λ _. ⌜ now (out .exit) ≡ splice (now (out .entry)) 0 (imageOf r) ⌝ }
-    ensures whole { λ _. ⌜ Whole r ⌝ }
+    ensures whole { λ _. ⌜ WholeRecord r ⌝ }
 {
     put_head(out, r);
     let software = r.software;

@@ -16,7 +16,7 @@ use Rattle.answer.specs.Refusal.{outputShort}
 use Rattle.codec.specs.Octets.{left}
 use Rattle.schema.specs.declared.Kind.{Kind}
 use Rattle.schema.specs.declared.Row.{Row}
-use Rattle.schema.specs.Table.{rows, rowAt}
+use Rattle.schema.specs.Table.{rows, rowAt, rowCount}
 use Rattle.schema.specs.Rows.{ofKind, ofRow}
 use Rattle.schema.specs.Content.{Field, Content}
 use Rattle.records.specs.declared.NumberSet.{NumberSet}
@@ -237,9 +237,9 @@ module _ (l : FieldList) (s word : List ℕ) where
   unfolding upTo fieldAt pick
   list-skip k h e = rw (add-one, h, append-nil) (within (linesRoom (length s) (suc k)) (omega arith) e)
 
-  pub list-end : (k : ℕ) {old new : List ℕ} {p q : ℕ} → 42 ≤ k → k ≤ 42 → Listing l s word k old p new q → PutsText old p (fieldLines word (fieldsOf l (octetsAt s))) (16128 + 26 * length s) new q
+  pub list-end : (k : ℕ) {old new : List ℕ} {p q : ℕ} → rowCount ≤ k → k ≤ rowCount → Listing l s word k old p new q → PutsText old p (fieldLines word (fieldsOf l (octetsAt s))) (16128 + 26 * length s) new q
   unfolding rows
-  list-end k h w e = let z : k ≡ 42 = omega arith in within (16128 + 26 * length s) (omega arith) (rw z at e)
+  list-end k h w e = let z : k ≡ rowCount = omega arith in within (16128 + 26 * length s) (omega arith) (rw z at e)
 
 -- ---- the whole
 

@@ -10,12 +10,14 @@ use records::Record;
 use records::RootOfTrust;
 use records::Security;
 use schema::Kind;
+use schema::ROWS;
 use schema::Row;
 use shape::set_of;
 ghost use mathlib.Core.Path.{_≡_};
 ghost use mathlib.Core.List.{[], _∷_};
 ghost use Prim.Native.Nat.{_+_, _*_, _<_, _≤_};
 ghost use lib.ListN.{length, drop};
+ghost use Rattle.schema.specs.Table.{rowCount};
 ghost use Rattle.records.specs.Content.{partOf, membersOf};
 ghost use Rattle.listing.specs.Text.{dash, decimal, hexDigit, hexText, octetsText, moreNumbers, numbersText, lockedText, stateText, named, countLine};
 ghost use Rattle.listing.specs.Put.{PutsText};
@@ -197,7 +199,7 @@ fn put_octets(out: &mut [u8], at: usize, word: &[u8], s: &[u8], part: Part) -> u
 
 // The value of a row of a list, by its kind.
 fn put_value(out: &mut [u8], at: usize, s: &[u8], l: FieldList, place: usize, row: Row) -> usize
-    requires { ⌜ place < 42 ⌝ }
+    requires { ⌜ place < rowCount ⌝ }
     ensures { λ r. ⌜ PutsValue (now (out .entry)) at (now (s .entry)) l place row (now (out .exit)) r ⌝ }
 {
     let kind = row.kind;
@@ -225,7 +227,7 @@ fn put_value(out: &mut [u8], at: usize, s: &[u8], l: FieldList, place: usize, ro
 
 // The line of a present row, after its list's word.
 fn put_field(out: &mut [u8], at: usize, word: &[u8], s: &[u8], l: FieldList, place: usize) -> usize
-    requires { ⌜ (length (now word) ≤ 9) × (place < 42) ⌝ }
+    requires { ⌜ (length (now word) ≤ 9) × (place < rowCount) ⌝ }
     ensures { λ r. ⌜ PutsField (now (out .entry)) at (now (word .entry)) (now (s .entry)) l place (now (out .exit)) r ⌝ }
 {
     let row = schema::row_at(place);
@@ -242,7 +244,7 @@ fn put_list(out: &mut [u8], at: usize, word: &[u8], s: &[u8], l: FieldList) -> u
 {
     let mut p = at;
     let mut place: usize = 0;
-    while place < 42 {
+    while place < ROWS {
         if l.present[place] {
             p = put_field(out, p, word, s, l, place);
             place += 1;

@@ -15,7 +15,7 @@ use Rattle.checks.specs.Tags.{there, allows, member}
 use Rattle.checks.specs.Checks.{knownPurpose, purposeRefused, agreed, algorithmFits, paddingFits, paddingRefused, looksAtDigest, digestFits, digestRefused, digestBytes, keySizeRefused, signs, clockRefused, activeRefused, expiryRefused, authMissing, tokenRefused, freshRefused, usesRefused}
 use Rattle.ruling.specs.Ruling.{firstRefusing, shapeChecks, dateChecks, tokenChecks, deviceChecks, heldTags, looked, bit, markOf, permit, permitOf, unless, ruled, Permit}
 use Rattle.listing.specs.Text.{digits, decimal, hexDigit, hexPair, hexText, octetsText, moreNumbers, numbersText, valueText, named, numbersLine, octetsLine, fieldLine, fieldLines, countLine, headText, contentText, listing}
-use Rattle.marked_cases.specs.Cases.{Use, Ruled, Sized, Holds, Every, extension, text, sign, permitted, cases, MarkedCases}
+use Rattle.marked_cases.specs.Cases.{Use, Ruled, KeySizeCase, Holds, Every, extension, text, sign, permitted, cases, MarkedCases}
 use Rattle.marked_cases.proofs.Ruled.{asking, ruled-by}
 use Rattle.marked_cases.proofs.Sample.{said, said-read, softwareSaid, hardwareSaid, said-ruled, hardware-parts, hardware-bits, software-bits}
 
@@ -48,11 +48,11 @@ other-digest-34 = by-rules (sign 5 1609459200000) (refused 34 0) (λ q. refl)
 
 -- ---- check 35 alone
 
-key-of-1033 : Sized 6 1033 (got tt)
+key-of-1033 : KeySizeCase 6 1033 (got tt)
 unfolding unless firstRefusing keySizeRefused digestBytes there allows pick
 key-of-1033 = record { software = refl; hardware = refl; both = refl }
 
-key-of-1032 : Sized 6 1032 (refused 35 0)
+key-of-1032 : KeySizeCase 6 1032 (refused 35 0)
 unfolding unless firstRefusing keySizeRefused digestBytes there allows pick
 key-of-1032 = record { software = refl; hardware = refl; both = refl }
 

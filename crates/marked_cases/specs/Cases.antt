@@ -51,7 +51,7 @@ abbrev pub keySizeAlone : ℕ → Option ℕ → Option ℕ → Answer (Unit {0}
 keySizeAlone digest s h = unless (firstRefusing ((keyTooSmall, keySizeRefused 2 1 3 digest s h) ∷ [])) tt
 
 -- wherever the size stands: in one list, in the other or in both
-pub record Sized (digest bits : ℕ) (a : Answer (Unit {0})) : Type 0 where
+pub record KeySizeCase (digest bits : ℕ) (a : Answer (Unit {0})) : Type 0 where
   pub software : keySizeAlone digest (some bits) none ≡ a
   pub hardware : keySizeAlone digest none (some bits) ≡ a
   pub both : keySizeAlone digest (some bits) (some bits) ≡ a
@@ -60,7 +60,7 @@ unfoldable pub Holds : Case → Type 0
 Holds (lists bs text) = listing (read bs) ≡ text
 Holds (refuses bs number place) = read bs ≡ refused number place
 Holds (rules bs u a) = Ruled bs u a
-Holds (sizes digest bits a) = Sized digest bits a
+Holds (sizes digest bits a) = KeySizeCase digest bits a
 
 unfoldable pub Every : List Case → Type 0
 Every [] = Unit {0}

@@ -15,7 +15,7 @@ use types.Run.{OneOf}
 use Rattle.answer.specs.Answer.{Answer, got, refused, guard, pick}
 use Rattle.answer.specs.Refusal.{illShaped}
 use Rattle.answer.proofs.Answer.{got-inj, guard-case}
-use Rattle.schema.specs.Table.{Kind, set, number32, number64, null, octets, root, row, rows, rowAt, indexOf}
+use Rattle.schema.specs.Table.{Kind, set, number32, number64, null, octets, root, row, rows, rowAt, indexOf, rowCount}
 use Rattle.schema.specs.Content.{ValueWith, num, nul, oct, nums, trust, Place, placeAt}
 use Rattle.schema.specs.Rows.{ofKind, ofRow}
 use Rattle.schema.specs.declared.Row.{Row}
@@ -78,7 +78,7 @@ other-kind code.Kind.Octets p start size len (inr (inr (inr (inr e)))) = absurd 
 other-kind code.Kind.Root p start size len o = refl
 
 module _ (l : FieldList) (number len k : ℕ) (i : k ≡ indexOf rows number) where
-  pub no-row : 42 ≤ k → got none ≡ askedAt l (indexOf rows number) len
+  pub no-row : rowCount ≤ k → got none ≡ askedAt l (indexOf rows number) len
   unfolding askedAt askedIn rows
   no-row h = rw (← i, List·getD-eq-default rows (row 0 null 1 0) h) refl
 

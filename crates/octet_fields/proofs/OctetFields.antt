@@ -14,7 +14,7 @@ use Rattle.answer.specs.Answer.{Answer, got, refused, guard, pick}
 use Rattle.answer.specs.Refusal.{illShaped}
 use Rattle.answer.proofs.Logic.{by-le}
 use Rattle.answer.proofs.Answer.{refused-got, guard-yes, guard-case, guard-refuses}
-use Rattle.schema.specs.Table.{Kind, set, number32, number64, null, octets, root, row, rows, rowAt, indexOf}
+use Rattle.schema.specs.Table.{Kind, set, number32, number64, null, octets, root, row, rows, rowAt, indexOf, rowCount}
 use Rattle.schema.specs.Content.{ValueWith, num, nul, oct, nums, trust, Place, placeAt}
 use Rattle.schema.proofs.Table.{find-place}
 use Rattle.records.specs.declared.FieldList.{FieldList}
@@ -28,7 +28,7 @@ use Rattle.octet_fields.specs.Statements.{AskedMeans, AskedExactly}
 use Rattle.records.proofs.Fields.{place-below, no-row-has, row-value}
 use Rattle.octet_fields.proofs.Asking.{no-row}
 
-number-at : (n : ℕ) → indexOf rows n < 42 → rowAt (indexOf rows n) .number ≡ n
+number-at : (n : ℕ) → indexOf rows n < rowCount → rowAt (indexOf rows n) .number ≡ n
 unfolding rows
 number-at n h = find-place rows n (row 0 null 1 0) h .1
 
@@ -52,8 +52,8 @@ module _ (l : FieldList) (len : ℕ) where
   pub asked-by-number : (n : ℕ) → askedAt l (indexOf rows n) len ≡ askedOf (fieldValue (fieldsOf l placeAt) n) len
   unfolding askedAt askedOf rows
   asked-by-number n =
-      by-le 42 (indexOf rows n)
-      (λ h. sym (no-row l n len (indexOf rows n) refl h) ∙ rw (no-row-has l placeAt 42 n (λ j i e. absurd (omega (arith, rw e at (place-below rows (row 0 null 1 0) j i))))) refl)
+      by-le rowCount (indexOf rows n)
+      (λ h. sym (no-row l n len (indexOf rows n) refl h) ∙ rw (no-row-has l placeAt rowCount n (λ j i e. absurd (omega (arith, rw e at (place-below rows (row 0 null 1 0) j i))))) refl)
       (λ h. by-kind (rowAt (indexOf rows n) .kind) (getD (l .present) (indexOf rows n) false) (rowAt (indexOf rows n) .number) (indexOf rows n)
       ∙ ap (λ (o : Option (ValueWith Place)). askedOf o len) (sym (row-value l placeAt (indexOf rows n) h) ∙ ap (fieldValue (fieldsOf l placeAt)) (number-at n h)))
 

@@ -6,7 +6,7 @@ use Prim.Native.Nat.{ℕ, zero, suc}
 use lib.ListN.{take, drop, getD}
 use Rattle.answer.specs.Answer.{pick}
 use Rattle.codec.specs.Octets.{Octets}
-use Rattle.schema.specs.Table.{Kind, set, number32, number64, null, octets, root, rowAt}
+use Rattle.schema.specs.Table.{Kind, set, number32, number64, null, octets, root, rowAt, rowCount}
 use Rattle.schema.specs.Content.{Field, field}
 use Rattle.schema.specs.Parts.{HashIs, ValueIs, FieldsAre, ContentOctets}
 use Rattle.records.specs.Content.{octetsAt, valueAt, fieldAt, upTo, contentOf}
@@ -57,4 +57,4 @@ module _ (l : FieldList) (s : List ℕ) (o : Octets s) where
 
 -- the octets of a record's content are those of its buffer
 pub content-octets : (r : Record) (s : List ℕ) → Octets s → ContentOctets (contentOf r s)
-content-octets r s o = (part (r .challenge .start) (r .challenge .len) s o, part (r .unique .start) (r .unique .len) s o, rows (r .software) s o 42, rows (r .hardware) s o 42)
+content-octets r s o = (part (r .challenge .start) (r .challenge .len) s o, part (r .unique .start) (r .unique .len) s o, rows (r .software) s o rowCount, rows (r .hardware) s o rowCount)

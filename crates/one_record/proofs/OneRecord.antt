@@ -42,6 +42,7 @@ use Rattle.writer.specs.Written.{encodingOf, writable, written, ofWritten, Writ
 use Rattle.one_record.specs.Contracts.{ReadsAs}
 use Rattle.one_record.specs.Statements.{OneAnswer, ReadRefuses, SchemaRefuses, AcceptedExactly, EqualSameBytes, Encodable, EncodingAccepted, ReadsBackEqual, OnlyEncoding, EncodingSmall, WritesJustThat, RefusedUntouched, RefusesInOrder, WriteNumbers, WriteRefuses, WriteOfRead, ReadOfWrite}
 use Rattle.one_record.proofs.ContentOctets.{content-octets}
+use Rattle.codec.specs.Limits.{extensionBytes}
 
 -- ---- one answer
 
@@ -51,7 +52,7 @@ one-answer s b =
     (a .0, a .1, a .2, λ o′ r′ g. same-answer s (a .0) o′ (a .1) r′ (a .2) g)
 
 pub read-refuses : ReadRefuses
-read-refuses s k p r b g = refusals.read-refuses Place asPlace s b k p (sym (g .is))
+read-refuses s k p r b g = refusals.reading-refuses Place asPlace s b k p (sym (g .is))
 
 pub schema-refuses : SchemaRefuses
 schema-refuses s k p r t b e g = refusals.after-first-pass Place asPlace s t b e k p (sym (g .is))
@@ -99,7 +100,7 @@ pub encoding-small : EncodingSmall
 encoding-small r s h =
     let c = contentOf r s in
     let t = shaped-content r (octetsAt s) (h .shaped) in
-    top 8192 5 313 (encode-one 0 c (shaped-good c t (content-octets r s (h .octets)) (h .short))) (count-few c t) (h .short)
+    top extensionBytes 5 313 (encode-one 0 c (shaped-good c t (content-octets r s (h .octets)) (h .short))) (count-few c t) (h .short)
 
 -- ---- the writer
 
@@ -131,30 +132,30 @@ module _ (r : Record) (s out : List ℕ) where
   shaped : T (wellShapedRecord r) → T (partsInside r (length s)) → T (writable r s)
   shaped t i = and-both (wellShapedRecord r) _ t i
 
-  fits : T (wellShapedRecord r) → T (partsInside r (length s)) → length (encodingOf r s) ≤ 8192 → length (encodingOf r s) ≤ length out → written r s out ≡ got (length (encodingOf r s))
+  fits : T (wellShapedRecord r) → T (partsInside r (length s)) → length (encodingOf r s) ≤ extensionBytes → length (encodingOf r s) ≤ length out → written r s out ≡ got (length (encodingOf r s))
   unfolding written
   fits t i a b =
       guard-yes (writable r s) 20 0 _ (shaped t i)
-      ∙ guard-yes (leb (length (encodingOf r s)) 8192) 22 0 _ (le→leb (length (encodingOf r s)) 8192 a)
+      ∙ guard-yes (leb (length (encodingOf r s)) extensionBytes) 22 0 _ (le→leb (length (encodingOf r s)) extensionBytes a)
       ∙ guard-yes (leb (length (encodingOf r s)) (length out)) 21 0 _ (le→leb (length (encodingOf r s)) (length out) b)
 
   not-writable : (T (writable r s) → ⊥) → written r s out ≡ refused 20 0
   unfolding written guard
   not-writable f = go (writable r s) f
     where
-      go : (b : Bool) → (T b → ⊥) → guard b 20 0 (guard (leb (length (encodingOf r s)) 8192) 22 0 (guard (leb (length (encodingOf r s)) (length out)) 21 0 (got (length (encodingOf r s))))) ≡ refused 20 0
+      go : (b : Bool) → (T b → ⊥) → guard b 20 0 (guard (leb (length (encodingOf r s)) extensionBytes) 22 0 (guard (leb (length (encodingOf r s)) (length out)) 21 0 (got (length (encodingOf r s))))) ≡ refused 20 0
       go true f = absurd (f tt)
       go false f = refl
 
-  too-long : T (wellShapedRecord r) → T (partsInside r (length s)) → 8192 < length (encodingOf r s) → written r s out ≡ refused 22 0
+  too-long : T (wellShapedRecord r) → T (partsInside r (length s)) → extensionBytes < length (encodingOf r s) → written r s out ≡ refused 22 0
   unfolding written guard
-  too-long t i a = guard-yes (writable r s) 20 0 _ (shaped t i) ∙ rw (lt-leb (length (encodingOf r s)) 8192 a) refl
+  too-long t i a = guard-yes (writable r s) 20 0 _ (shaped t i) ∙ rw (lt-leb (length (encodingOf r s)) extensionBytes a) refl
 
-  too-narrow : T (wellShapedRecord r) → T (partsInside r (length s)) → length (encodingOf r s) ≤ 8192 → length out < length (encodingOf r s) → written r s out ≡ refused 21 0
+  too-narrow : T (wellShapedRecord r) → T (partsInside r (length s)) → length (encodingOf r s) ≤ extensionBytes → length out < length (encodingOf r s) → written r s out ≡ refused 21 0
   unfolding written guard
   too-narrow t i a b =
       guard-yes (writable r s) 20 0 _ (shaped t i)
-      ∙ guard-yes (leb (length (encodingOf r s)) 8192) 22 0 _ (le→leb (length (encodingOf r s)) 8192 a)
+      ∙ guard-yes (leb (length (encodingOf r s)) extensionBytes) 22 0 _ (le→leb (length (encodingOf r s)) extensionBytes a)
       ∙ rw (lt-leb (length (encodingOf r s)) (length out) b) refl
 
 -- octets put at the front
@@ -205,9 +206,9 @@ pub wrote-encodable : (r : Record) (s out after : List ℕ) (k : ℕ) → Octets
 unfolding written
 wrote-encodable r s out after k o g =
     guard-case (writable r s) 20 0 _ (sym (g .answer)) λ t e₁.
-    guard-case (leb (length (encodingOf r s)) 8192) 22 0 _ e₁ λ a e₂.
+    guard-case (leb (length (encodingOf r s)) extensionBytes) 22 0 _ e₁ λ a e₂.
     guard-case (leb (length (encodingOf r s)) (length out)) 21 0 _ e₂ λ b e₃.
-    (record { shaped = and-left (wellShapedRecord r) _ t; inside = and-right (wellShapedRecord r) _ t; octets = o; short = leb→le (length (encodingOf r s)) 8192 a }, leb→le (length (encodingOf r s)) (length out) b, sym (got-inj e₃))
+    (record { shaped = and-left (wellShapedRecord r) _ t; inside = and-right (wellShapedRecord r) _ t; octets = o; short = leb→le (length (encodingOf r s)) extensionBytes a }, leb→le (length (encodingOf r s)) (length out) b, sym (got-inj e₃))
 
 pub read-of-write : ReadOfWrite
 read-of-write r r′ s out after k o q g i =

@@ -19,7 +19,7 @@ use Rattle.answer.specs.Answer.{got, pick}
 use Rattle.answer.proofs.Logic.{and-both, by-le}
 use Rattle.codec.specs.Octets.{Octets}
 use Rattle.schema.specs.Table as table
-use Rattle.schema.specs.Table.{rowAt}
+use Rattle.schema.specs.Table.{rowAt, rowCount}
 use Rattle.schema.specs.Rows.{ofKind}
 use Rattle.schema.specs.Decode.{readPlaces}
 use Rattle.schema.specs.declared.Kind.{Kind}
@@ -32,7 +32,7 @@ use Rattle.records.specs.Slots.{SetInSlots, InSlots}
 use Rattle.records.specs.Parts.{partInside, rootInside, contentInside, rowInside, listInside, partsInside}
 use Rattle.records.specs.Shape.{wellShapedRecord}
 use Rattle.records.specs.Empty.{emptySet, emptyRoot, emptyList, emptyRecord}
-use Rattle.records.specs.Clear.{usesValue, usesSize, SpareClear, HashClear, SetClear, RootClear, Sized, ListClear}
+use Rattle.records.specs.Clear.{usesValue, usesSize, SpareClear, HashClear, SetClear, RootClear, RowsSized, ListClear}
 use Rattle.records.specs.Made.{recordMade}
 use Rattle.records.specs.declared.NumberSet.{NumberSet}
 use Rattle.records.specs.declared.RootOfTrust.{RootOfTrust}
@@ -148,7 +148,7 @@ by-eq {ℓ} : {X : Type ℓ} (a b : ℕ) → (a ≡ b → X) → ((a ≡ b → �
 by-eq a b f g = by-le a b (λ p. by-le b a (λ q. f (omega arith)) (λ q. g (λ e. absurd (omega arith)))) (λ p. g (λ e. absurd (omega arith)))
 
 -- of a list with a row more: that row is there, and any other as it was
-module _ (l : FieldList) (row : ℕ) (c : Stored) (z : Sized l) (h : row < 42) where
+module _ (l : FieldList) (row : ℕ) (c : Stored) (z : RowsSized l) (h : row < rowCount) where
   stored-present : presentAt (withField l row c) row ≡ true
   stored-present = getD-set-same (l .present) row true false (omega (arith, z .present))
 
@@ -164,7 +164,7 @@ module _ (l : FieldList) (row : ℕ) (c : Stored) (z : Sized l) (h : row < 42) w
       (λ ne. rw (ne-eqb row k ne, other-present k (λ u. ne (sym u))) q)
 
   -- a word of row k
-  stored-word : (uses : table.Kind → Bool) (words : List ℕ) (w k : ℕ) → length words ≡ 42 → k < 42 → (uses (rowAt row .kind) ≡ false → w ≡ 0) → ((presentAt l k && uses (rowAt k .kind)) ≡ false → getD words k 0 ≡ 0)
+  stored-word : (uses : table.Kind → Bool) (words : List ℕ) (w k : ℕ) → length words ≡ rowCount → k < rowCount → (uses (rowAt row .kind) ≡ false → w ≡ 0) → ((presentAt l k && uses (rowAt k .kind)) ≡ false → getD words k 0 ≡ 0)
       → (presentAt (withField l row c) k && uses (rowAt k .kind)) ≡ false → getD (set words row w) k 0 ≡ 0
   stored-word uses words w k m b new old e =
       by-eq k row
@@ -177,10 +177,10 @@ module _ (n : ℕ) where
     sized = empty-sized;
     sets = record { purpose = (omega arith, refl); digest = (omega arith, refl); padding = (omega arith, refl); mgf = (omega arith, refl) };
     root = (omega arith, omega arith);
-    octet = λ k h e. rw (getD-replicate {A = ℕ} 42 k 0 0 h) (omega arith);
+    octet = λ k h e. rw (getD-replicate {A = ℕ} rowCount k 0 0 h) (omega arith);
     clear = record {
-      value = λ k h e. getD-replicate {A = ℕ} 42 k 0 0 h;
-      size = λ k h e. getD-replicate {A = ℕ} 42 k 0 0 h;
+      value = λ k h e. getD-replicate {A = ℕ} rowCount k 0 0 h;
+      size = λ k h e. getD-replicate {A = ℕ} rowCount k 0 0 h;
       purpose = record { spare = empty-spare; absent = λ e. refl };
       digest = record { spare = empty-spare; absent = λ e. refl };
       padding = record { spare = empty-spare; absent = λ e. refl };
@@ -192,8 +192,8 @@ module _ (n : ℕ) where
   pub list-empty-in : (l : FieldList) → l ≡ emptyList → ListIn n l
   list-empty-in l e = rw e empty-in
 
-  module _ (l : FieldList) (row : ℕ) (c : Stored) (h : row < 42) (i : ListIn n l) (j : ContentKept (rowAt row .kind) n c) where
-    stored-octet : (k : ℕ) → k < 42 → rowAt k .kind ≡ table.octets → getD (set (l .values) row (c .value)) k 0 + getD (set (l .sizes) row (c .size)) k 0 ≤ n
+  module _ (l : FieldList) (row : ℕ) (c : Stored) (h : row < rowCount) (i : ListIn n l) (j : ContentKept (rowAt row .kind) n c) where
+    stored-octet : (k : ℕ) → k < rowCount → rowAt k .kind ≡ table.octets → getD (set (l .values) row (c .value)) k 0 + getD (set (l .sizes) row (c .size)) k 0 ≤ n
     stored-octet k b e =
         by-eq k row
         (λ q. rw (q, getD-set-same (l .values) row (c .value) 0 (omega (arith, i .sized .values)), getD-set-same (l .sizes) row (c .size) 0 (omega (arith, i .sized .sizes))) (j .octet (rw (← q, e) refl)))
@@ -244,13 +244,13 @@ module _ (n : ℕ) where
   content-inside table.octets a z t i o = le→leb (a + z) n (o refl)
   content-inside table.root a z t i o = root-inside t i
 
-  row-inside : (l : FieldList) → ListIn n l → (k : ℕ) → k < 42 → rowInside l n k ≡ true
+  row-inside : (l : FieldList) → ListIn n l → (k : ℕ) → k < rowCount → rowInside l n k ≡ true
   unfolding rowInside
   row-inside l i k h = is-true _ (either T (getD (l .present) k false) _ true (content-inside (rowAt k .kind) (getD (l .values) k 0) (getD (l .sizes) k 0) (l .root) (i .root) (λ e. i .octet k h e)) tt)
 
   list-inside : (l : FieldList) → ListIn n l → T (listInside l n)
   unfolding listInside
-  list-inside l i = rw (all-of (rowInside l n) 42 (row-inside l i)) tt
+  list-inside l i = rw (all-of (rowInside l n) rowCount (row-inside l i)) tt
 
   -- ---- the record
 

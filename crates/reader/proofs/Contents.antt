@@ -26,7 +26,7 @@ use Rattle.records.specs.Content.{membersOf}
 use Rattle.records.specs.declared.NumberSet.{NumberSet}
 use Rattle.records.specs.declared.RootOfTrust.{RootOfTrust}
 use Rattle.reader.specs.Leaf.{readNumber, ofNumber, ofNull, ofOctets, NumberInside, OctetsInside}
-use Rattle.reader.specs.Set.{ofSet, StepInside}
+use Rattle.reader.specs.Set.{ofSet, PastInside}
 use Rattle.records.specs.Empty.{emptySet, emptyRoot}
 use Rattle.reader.specs.Root.{Trust, trustOf, ofTrust, ofRoot, HashedAs, PartsIn, RootInside}
 use Rattle.reader.specs.Content.{Stored, ofStepped, endStep, plainContent, contentValue, ofPlain, plainEnd, isPlain, PlainRead}
@@ -98,9 +98,9 @@ module _ (s : List ℕ) (at end : ℕ) (fit : end ≤ length s) (t : Step) (g : 
   pub set-content-no : (k p : ℕ) → t ≡ Step.Refused k p → refused k p ≡ exactly 9 readSet at (slice at end s)
   set-content-no k p w = sym (exact-no readSet s at end fit k p (sym (rw w at e)))
 
-  pub set-content-is : (x : ℕ) (u : Step) → StepInside at end t → t ≡ Step.Past x → u ≡ endStep x end → ofStepped u (membersOf g) ≡ exactly 9 readSet at (slice at end s)
+  pub set-content-is : (x : ℕ) (u : Step) → PastInside at end t → t ≡ Step.Past x → u ≡ endStep x end → ofStepped u (membersOf g) ≡ exactly 9 readSet at (slice at end s)
   set-content-is x u i w q =
-      let j : (at < x) × (x ≤ end) = subst (StepInside at end) w i in
+      let j : (at < x) × (x ≤ end) = subst (PastInside at end) w i in
       rw q (exact-is readSet s at end fit (membersOf g) x (sym (rw w at e)) (j .1))
 
 pub set-content-slots : (x end : ℕ) (t u : Step) (g : NumberSet) → StepSlots t g → t ≡ Step.Past x → u ≡ endStep x end → StepSlots u g

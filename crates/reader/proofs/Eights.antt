@@ -35,6 +35,7 @@ use Rattle.reader.specs.declared.head.Head.{Head}
 use Rattle.reader.specs.declared.set.Step.{Step}
 use Rattle.reader.proofs.Open.{leaf-no, leaf-is, tagged-inside}
 use Rattle.reader.proofs.Heads.{eight-split}
+use Rattle.codec.specs.Limits.{extensionBytes, extensionDepth, extensionElements}
 
 pub record-is : (l : FieldList) → l ≡ emptyList
     → _≡_ {A = Record} (record { attestation = record { version = 0; level = 0 }; keymint = record { version = 0; level = 0 }; challenge = record { start = 0; len = 0 }; unique = record { start = 0; len = 0 }; software = l; hardware = l }) emptyRecord
@@ -54,7 +55,7 @@ withCount n M = bind M (λ c. got (c, n))
 -- ---- after the first pass
 
 module _ (s : List ℕ) (limits : Limits) (q : limits ≡ extensionLimits) (r : Walked) (e : ofWalked r ≡ nodeCount (firstPass (limits .bytes) (limits .depth) (limits .elements) s)) where
-  first : ofWalked r ≡ nodeCount (firstPass 8192 8 512 s)
+  first : ofWalked r ≡ nodeCount (firstPass extensionBytes extensionDepth extensionElements s)
   first = rw q at e
 
   walked-no : (k p : ℕ) (M : Answer Node) → refused k p ≡ nodeCount M → _≡_ {A = Answer (Places × ℕ)} (bind M (λ t. withCount (nodes t) (decodeWith asPlace s))) (refused k p)
@@ -64,7 +65,7 @@ module _ (s : List ℕ) (limits : Limits) (q : limits ≡ extensionLimits) (r : 
 
   pub walk-no : (k p : ℕ) → r ≡ Walked.Refused k p → readPlaces s ≡ refused k p
   unfolding readWith
-  walk-no k p w = walked-no k p (firstPass 8192 8 512 s) (rw w at first)
+  walk-no k p w = walked-no k p (firstPass extensionBytes extensionDepth extensionElements s) (rw w at first)
 
   walked-is : (n : ℕ) (M : Answer Node) → got n ≡ nodeCount M → bind M (λ t. withCount (nodes t) (decodeWith asPlace s)) ≡ withCount n (decodeWith asPlace s)
   unfolding bind
@@ -73,7 +74,7 @@ module _ (s : List ℕ) (limits : Limits) (q : limits ≡ extensionLimits) (r : 
 
   walk-is : (n : ℕ) → r ≡ Walked.Accepted n → readPlaces s ≡ withCount n (decodeWith asPlace s)
   unfolding readWith
-  walk-is n w = walked-is n (firstPass 8192 8 512 s) (rw w at first)
+  walk-is n w = walked-is n (firstPass extensionBytes extensionDepth extensionElements s) (rw w at first)
 
 -- ---- the outermost SEQUENCE: 9 for more in it and 7 for more after it, as `listsFrom` has them
 

@@ -13,7 +13,7 @@ use Rattle.answer.specs.Answer.{Answer, got, refused, guard, bind}
 use Rattle.codec.specs.Octets.{Taken, taken}
 use Rattle.codec.specs.Header.{identifier}
 use Rattle.codec.specs.Element.{element}
-use Rattle.schema.specs.Table.{Row, row, null, rows, rowAt, indexOf, find, heldIn}
+use Rattle.schema.specs.Table.{Row, row, null, rows, rowAt, indexOf, find, heldIn, rowCount}
 use Rattle.schema.specs.Content.{ValueWith, FieldWith, field, Place, placeAt}
 use Rattle.schema.specs.Decode.{readValue, rowContent, fieldContent, readField, asPlace}
 use Rattle.schema.specs.Rows.{ofRow}
@@ -24,7 +24,7 @@ use Rattle.reader.specs.Fields.{FieldAt}
 use Rattle.reader.specs.declared.element.Element.{Element}
 use Rattle.reader.proofs.Open.{element-open, contentAfter, element-inside}
 
-rows-length : length rows ≡ 42
+rows-length : length rows ≡ rowCount
 unfolding rows
 rows-length = refl
 
@@ -47,11 +47,11 @@ module _ (s : List ℕ) (at end v low : ℕ) (r : Element) (e : ofElement s end 
       unfolding fieldContent guard
       tagged = opens ∙ rw (eq-eqb f 5 h) refl
 
-      pub field-unknown : (i : ℕ) → i ≡ indexOf rows n → 42 ≤ i → readField asPlace v low at (slice at end s) ≡ refused 11 at
+      pub field-unknown : (i : ℕ) → i ≡ indexOf rows n → rowCount ≤ i → readField asPlace v low at (slice at end s) ≡ refused 11 at
       unfolding rowContent bind
       field-unknown i q l = tagged ∙ rw (find-none rows n (omega (arith, rows-length, q))) refl
 
-      module _ (i : ℕ) (q : i ≡ indexOf rows n) (l : i < 42) (c : code.Row) (qc : ofRow c ≡ rowAt i) (b₁ : Bool) (qb : b₁ ≡ heldIn v (ofRow c)) where
+      module _ (i : ℕ) (q : i ≡ indexOf rows n) (l : i < rowCount) (c : code.Row) (qc : ofRow c ≡ rowAt i) (b₁ : Bool) (qb : b₁ ≡ heldIn v (ofRow c)) where
         place : (find rows n ≡ some (rowAt i)) × (rowAt i .number ≡ n)
         place = rw q (find-place rows n (row 0 null 1 0) (omega (arith, rows-length, q)))
 

@@ -7,13 +7,13 @@ use lib.ListN.{length}
 use lib.Seq.{slice}
 use Rattle.answer.specs.Answer.{refused}
 use Rattle.answer.proofs.Logic.{by-le}
-use Rattle.schema.specs.Table.{rows, rowAt}
+use Rattle.schema.specs.Table.{rows, rowAt, rowCount}
 use Rattle.schema.specs.Decode.{readField, asPlace}
 use Rattle.schema.proofs.Table.{above}
 use Rattle.reader.specs.Fields.{FieldAt, FieldOpened}
 use Rattle.reader.specs.declared.fields.FieldHead.{FieldHead}
 
-number-small : (k : ℕ) → k < 42 → rowAt k .number ≤ 723
+number-small : (k : ℕ) → k < rowCount → rowAt k .number ≤ 723
 unfolding rows
 number-small k h = by-le 41 k (λ l. let e : k ≡ 41 = omega arith in rw e (omega arith)) (λ l. omega (arith, above k 41 l (omega arith)))
 
@@ -31,7 +31,7 @@ module _ (s : List ℕ) (at end v low : ℕ) (r : FieldHead) (o : FieldOpened s 
     pub field-stop : b ≤ x
     field-stop = field-at .stop
 
-    pub field-row : row < 42
+    pub field-row : row < rowCount
     field-row = field-at .inTable
 
     pub field-scaled : row * 8 < 2 ^ 64

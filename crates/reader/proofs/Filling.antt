@@ -17,7 +17,7 @@ use Rattle.answer.proofs.Logic.{by-le}
 use Rattle.codec.specs.Octets.{Taken, taken}
 use Rattle.codec.specs.Element.{exactly}
 use Rattle.schema.specs.Table as table
-use Rattle.schema.specs.Table.{Kind, rows, rowAt}
+use Rattle.schema.specs.Table.{Kind, rows, rowAt, rowCount}
 use Rattle.schema.specs.Rows.{ofKind, ofRow}
 use Rattle.schema.specs.Content.{ValueWith, FieldWith, field, afterField, Place, placeAt}
 use Rattle.schema.specs.Decode.{readSet, readRoot, readValue, readField, readList, asPlace}
@@ -33,7 +33,7 @@ use Rattle.records.specs.declared.FieldList.{FieldList}
 use Rattle.reader.specs.Content.{Stored, ofStepped, ofPlain, plainContent, contentValue, isPlain, PlainRead}
 use Rattle.reader.specs.Fields.{FieldAt, FieldOpened}
 use Rattle.reader.specs.Element.{openedAs, ofTagged}
-use Rattle.reader.specs.Set.{StepAt}
+use Rattle.reader.specs.Set.{PastAt}
 use Rattle.reader.specs.Lists.{withField, fieldsFrom, ofFields, ofList}
 use Rattle.records.specs.Empty.{emptyList}
 use Rattle.reader.specs.Root.{ofTrust}
@@ -54,7 +54,7 @@ use Rattle.reader.proofs.Lists.{stored-same, stored-other, empty-none, 
 pub record Filled (s : List ℕ) (at end v : ℕ) (l : FieldList) (place low : ℕ) : Type 0 where
   pub from : at ≤ place
   pub to : place ≤ end
-  pub absent : (k : ℕ) → k < 42 → low ≤ rowAt k .number → fieldAt l placeAt k ≡ []
+  pub absent : (k : ℕ) → k < rowCount → low ≤ rowAt k .number → fieldAt l placeAt k ≡ []
   pub ahead : Ahead (readField asPlace v) afterField s end (fieldsFrom v at (slice at end s)) (fieldsOf l placeAt) low place
   pub bounds : ListIn (length s) l
 
@@ -105,12 +105,12 @@ module _ (s : List ℕ) (at end v : ℕ) (fit : end ≤ length s) where
           gone =
               let t = f .inTable in
               let m : rowAt row .number ≡ n = f .isRow in
-              upTo-one (fieldAt l placeAt) (fieldAt (withField l row c) placeAt) 42 row t
+              upTo-one (fieldAt l placeAt) (fieldAt (withField l row c) placeAt) rowCount row t
               (λ k b ne. stored-other l row c (g .bounds .sized) t k b ne)
               (λ k p b. g .absent k b (upper k p b))
               ∙ rw (stored-same l row c (g .bounds .sized) t, m) refl
             where
-              upper : (k : ℕ) → row ≤ k → k < 42 → low ≤ rowAt k .number
+              upper : (k : ℕ) → row ≤ k → k < rowCount → low ≤ rowAt k .number
               upper k p b = by-le k row (λ q. let e : k ≡ row = omega arith in rw e (omega (arith, f .isRow, f .above))) (λ q. omega (arith, above row k q b, f .isRow, f .above))
 
           filled-more : Filled s at end v (withField l row c) x (n + 1)
@@ -201,11 +201,11 @@ module _ (s : List ℕ) (at end v : ℕ) (r : Tagged) (e : ofTagged s end r ≡ 
   unfolding readList
   list-no k p w = sym (leaf-no _ at 1 16 s end r e k p w)
 
-  fields-as-list : (b x : ℕ) (t : Step) (l : FieldList) → ofFields t l ≡ fieldsFrom v b (slice b x s) → StepAt x t → ofList s end t l ≡ bind (fieldsFrom v b (slice b x s)) (λ a. got (taken a x (slice x end s)))
+  fields-as-list : (b x : ℕ) (t : Step) (l : FieldList) → ofFields t l ≡ fieldsFrom v b (slice b x s) → PastAt x t → ofList s end t l ≡ bind (fieldsFrom v b (slice b x s)) (λ a. got (taken a x (slice x end s)))
   unfolding bind
   fields-as-list b x (Step.Past y) l q i = rw (← q, i) refl
   fields-as-list b x (Step.Refused k p) l q i = rw (← q) refl
 
-  pub list-is : (b x : ℕ) (t : Step) (l : FieldList) → r ≡ Tagged.Is b x → ofFields t l ≡ fieldsFrom v b (slice b x s) → StepAt x t → ofList s end t l ≡ readList asPlace v at (slice at end s)
+  pub list-is : (b x : ℕ) (t : Step) (l : FieldList) → r ≡ Tagged.Is b x → ofFields t l ≡ fieldsFrom v b (slice b x s) → PastAt x t → ofList s end t l ≡ readList asPlace v at (slice at end s)
   unfolding readList fieldsFrom
   list-is b x t l w q i = fields-as-list b x t l q i ∙ sym (leaf-is _ at 1 16 s end r e b x w)

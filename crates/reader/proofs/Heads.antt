@@ -20,7 +20,7 @@ use Rattle.records.specs.declared.Part.{Part}
 use Rattle.records.specs.declared.Security.{Security}
 use Rattle.reader.specs.Leaf.{readNumber, ofNumber, ofOctets, NumberInside, OctetsInside}
 use Rattle.reader.specs.Element.{openedAs}
-use Rattle.reader.specs.Head.{heading, listsAfter, readAttestation, readKeymint, readNames, levelAfter, headAfter, readHead, ofSecured, ofNames, ofHead, Known, VersionInside, LevelInside, SecuredInside, AttestationInside, NamesInside, HeadInside}
+use Rattle.reader.specs.Head.{heading, listsAfter, readAttestation, readKeymint, readNames, levelAfter, headAfter, readHead, ofSecured, ofNames, ofHead, KnownVersion, VersionInside, LevelInside, SecuredInside, AttestationInside, NamesInside, HeadInside}
 use Rattle.reader.specs.declared.leaf.Number.{Number}
 use Rattle.reader.specs.declared.leaf.Octets.{Octets}
 use Rattle.reader.specs.declared.head.Secured.{Secured}
@@ -80,12 +80,12 @@ module _ (s : List ℕ) (at end : ℕ) (r : Number) (e : ofNumber s end r ≡ re
     unfolding bind guard
     version-unknown u = rw (version-number, ← e, w, ← q, u) refl
 
-    pub version-inside : b ≡ true → NumberInside at end r → (at < x) × ((x ≤ end) × Known n)
+    pub version-inside : b ≡ true → NumberInside at end r → (at < x) × ((x ≤ end) × KnownVersion n)
     version-inside u i =
         let j = number-inside at end n x r i w in
         (j .0, (j .1, (known-of n b q u, number-small s at end 2 top32 n x r e w)))
 
-pub version-known : (at end n x : ℕ) (r : Number) → VersionInside at end r → r ≡ Number.Is n x → (at < x) × ((x ≤ end) × Known n)
+pub version-known : (at end n x : ℕ) (r : Number) → VersionInside at end r → r ≡ Number.Is n x → (at < x) × ((x ≤ end) × KnownVersion n)
 version-known at end n x r i w = subst (VersionInside at end) w i
 
 -- ---- a version and its level
@@ -173,7 +173,7 @@ module _ (s : List ℕ) (at end v l : ℕ) (r : Secured) (e : ofSecured s end r 
     after-is a b y u = rw (← e, w, ← q, u) refl
 
 pub after-inside : (at end : ℕ) (a : Security) (r : Secured) (g : Security) (x : ℕ) (t : Names) (c u : Part) (y : ℕ)
-    → SecuredInside at end r → r ≡ Secured.Is g x → NamesInside x end t → t ≡ Names.Is c u y → Known (a .version) → HeadInside at end (Head.Is a g c u y)
+    → SecuredInside at end r → r ≡ Secured.Is g x → NamesInside x end t → t ≡ Names.Is c u y → KnownVersion (a .version) → HeadInside at end (Head.Is a g c u y)
 after-inside at end a r g x t c u y i w l o known =
     let j : (at < x) × (x ≤ end) = subst (SecuredInside at end) w i in
     let m : (x < y) × ((y ≤ end) × ((c .start + c .len ≤ end) × (u .start + u .len ≤ end))) = subst (NamesInside x end) o l in
@@ -188,7 +188,7 @@ module _ (s : List ℕ) (at end : ℕ) (r : Secured) (e : ofSecured s end r ≡ 
   unfolding readHead bind
   head-is g x t w q = rw (← e, w) q
 
-pub attestation-known : (at end : ℕ) (g : Security) (x : ℕ) (r : Secured) → AttestationInside at end r → r ≡ Secured.Is g x → (at < x) × ((x ≤ end) × Known (g .version))
+pub attestation-known : (at end : ℕ) (g : Security) (x : ℕ) (r : Secured) → AttestationInside at end r → r ≡ Secured.Is g x → (at < x) × ((x ≤ end) × KnownVersion (g .version))
 attestation-known at end g x r i w = subst (AttestationInside at end) w i
 
 pub head-inside : (at end : ℕ) (g : Security) (x : ℕ) (r : Secured) (t : Head) → AttestationInside at end r → r ≡ Secured.Is g x → HeadInside x end t → HeadInside at end t

@@ -13,13 +13,13 @@ use borrow.Author.Tests.{eq-eqb, ne-eqb, eqb-true, eqb-false}
 use Rattle.answer.specs.Answer.{Answer, got, refused, pick}
 use Rattle.answer.proofs.Logic.{and-left, and-right}
 use Rattle.schema.specs.Table as table
-use Rattle.schema.specs.Table.{Kind, number32, number64, null, octets, root, Row, row, rows, rowAt}
+use Rattle.schema.specs.Table.{Kind, number32, number64, null, octets, root, Row, row, rows, rowAt, rowCount}
 use Rattle.schema.specs.Content.{ValueWith, num, nul, oct, nums, trust, FieldWith, field, Place, placeAt}
 use Rattle.schema.proofs.Table.{above}
 use Rattle.records.proofs.Placed.{by-set, by-root}
 use Rattle.records.proofs.UpTo.{upTo-to}
 use Rattle.records.specs.Content.{membersOf, rootOf, setAt, valueAt, fieldAt, upTo, fieldsOf}
-use Rattle.records.specs.Clear.{Sized}
+use Rattle.records.specs.Clear.{RowsSized}
 use Rattle.records.specs.declared.FieldList.{FieldList}
 use Rattle.records.specs.declared.NumberSet.{NumberSet}
 use Rattle.records.specs.declared.RootOfTrust.{RootOfTrust}
@@ -29,7 +29,7 @@ use Rattle.reader.specs.Lists.{withField}
 
 -- ---- a stored field
 
-module _ (l : FieldList) (r : ℕ) (c : Stored) (z : Sized l) (h : r < 42) where
+module _ (l : FieldList) (r : ℕ) (c : Stored) (z : RowsSized l) (h : r < rowCount) where
   same-set : rowAt r .kind ≡ table.set → setAt (withField l r c) (rowAt r .number) ≡ c .set
   unfolding rows pick
   same-set e = by-set r h e (λ q. rw q refl) (λ q. rw q refl) (λ q. rw q refl) (λ q. rw q refl)
@@ -51,7 +51,7 @@ module _ (l : FieldList) (r : ℕ) (c : Stored) (z : Sized l) (h : r < 42) where
   unfolding fieldAt pick
   stored-same = rw (getD-set-same (l .present) r true false (omega (arith, z .present)), same-value (rowAt r .kind) refl) refl
 
-  module _ (k : ℕ) (b : k < 42) (n : k ≡ r → ⊥) where
+  module _ (k : ℕ) (b : k < rowCount) (n : k ≡ r → ⊥) where
     other-set : rowAt k .kind ≡ table.set → setAt (withField l r c) (rowAt k .number) ≡ setAt l (rowAt k .number)
     unfolding rows pick
     other-set e =
@@ -78,7 +78,7 @@ module _ (l : FieldList) (r : ℕ) (c : Stored) (z : Sized l) (h : r < 42) where
     unfolding fieldAt
     stored-other = rw (getD-set-other (l .present) r k true false n, other-value (rowAt k .kind) refl) refl
 
-  pub stored-sized : Sized (withField l r c)
+  pub stored-sized : RowsSized (withField l r c)
   stored-sized = record {
     present = length-set (l .present) r true ∙ z .present;
     values = length-set (l .values) r (c .value) ∙ z .values;
@@ -87,20 +87,20 @@ module _ (l : FieldList) (r : ℕ) (c : Stored) (z : Sized l) (h : r < 42) where
 
 -- ---- an empty list
 
-pub empty-none : (k : ℕ) → k < 42 → fieldAt emptyList placeAt k ≡ []
+pub empty-none : (k : ℕ) → k < rowCount → fieldAt emptyList placeAt k ≡ []
 unfolding fieldAt pick
-empty-none k h = rw (getD-replicate 42 k false false h) refl
+empty-none k h = rw (getD-replicate rowCount k false false h) refl
 
 pub empty-fields : fieldsOf emptyList placeAt ≡ []
 unfolding upTo
-empty-fields = upTo-to (fieldAt emptyList placeAt) 0 42 (omega arith) (λ k p q. empty-none k q) ∙ zero-rows (fieldAt emptyList placeAt)
+empty-fields = upTo-to (fieldAt emptyList placeAt) 0 rowCount (omega arith) (λ k p q. empty-none k q) ∙ zero-rows (fieldAt emptyList placeAt)
   where
     zero-rows : (F : ℕ → List (FieldWith Place)) → upTo F 0 ≡ []
     zero-rows F = refl
 
-pub empty-sized : Sized emptyList
+pub empty-sized : RowsSized emptyList
 empty-sized = record { present = refl; values = refl; sizes = refl }
 
 pub empty-is : (g : NumberSet) (r : RootOfTrust) → g ≡ emptySet → r ≡ emptyRoot
-    → _≡_ {A = FieldList} (record { present = replicate 42 false; values = replicate 42 0; sizes = replicate 42 0; purpose = g; digest = g; padding = g; mgf = g; root = r }) emptyList
+    → _≡_ {A = FieldList} (record { present = replicate rowCount false; values = replicate rowCount 0; sizes = replicate rowCount 0; purpose = g; digest = g; padding = g; mgf = g; root = r }) emptyList
 empty-is g r e q = rw (e, q) refl

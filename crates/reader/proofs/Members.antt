@@ -18,7 +18,7 @@ use Rattle.schema.specs.Content.{afterMember}
 use Rattle.schema.specs.Decode.{readInteger, readMember, readSet}
 use Rattle.reader.specs.Leaf.{readNumber, ofNumber, NumberInside}
 use Rattle.reader.specs.Element.{openedAs, ofTagged, TaggedInside}
-use Rattle.reader.specs.Set.{membersFrom, ofMembers, ofSet, StepAt, StepInside}
+use Rattle.reader.specs.Set.{membersFrom, ofMembers, ofSet, PastAt, PastInside}
 use Rattle.records.specs.Slots.{SetInSlots}
 use Rattle.records.specs.Clear.{SpareClear}
 use Rattle.records.specs.declared.NumberSet.{NumberSet}
@@ -132,16 +132,16 @@ module _ (s : List ℕ) (at end : ℕ) (r : Tagged) (e : ofTagged s end r ≡ op
   unfolding readSet
   set-no k p w = sym (leaf-no _ at 1 17 s end r e k p w)
 
-  members-as-set : (b x : ℕ) (t : Step) (g : NumberSet) → ofMembers t g ≡ membersFrom b (slice b x s) → StepAt x t → ofSet s end t g ≡ bind (membersFrom b (slice b x s)) (λ a. got (taken a x (slice x end s)))
+  members-as-set : (b x : ℕ) (t : Step) (g : NumberSet) → ofMembers t g ≡ membersFrom b (slice b x s) → PastAt x t → ofSet s end t g ≡ bind (membersFrom b (slice b x s)) (λ a. got (taken a x (slice x end s)))
   unfolding bind
   members-as-set b x (Step.Past y) g q i = rw (← q, i) refl
   members-as-set b x (Step.Refused k p) g q i = rw (← q) refl
 
-  pub set-is : (b x : ℕ) (t : Step) (g : NumberSet) → r ≡ Tagged.Is b x → ofMembers t g ≡ membersFrom b (slice b x s) → StepAt x t → ofSet s end t g ≡ readSet at (slice at end s)
+  pub set-is : (b x : ℕ) (t : Step) (g : NumberSet) → r ≡ Tagged.Is b x → ofMembers t g ≡ membersFrom b (slice b x s) → PastAt x t → ofSet s end t g ≡ readSet at (slice at end s)
   unfolding readSet membersFrom
   set-is b x t g w q i = members-as-set b x t g q i ∙ sym (leaf-is _ at 1 17 s end r e b x w)
 
 -- a step past what an element holds is past the element
-pub step-inside : (at end b x : ℕ) (r : Tagged) (t : Step) → TaggedInside at end r → r ≡ Tagged.Is b x → StepAt x t → StepInside at end t
+pub step-inside : (at end b x : ℕ) (r : Tagged) (t : Step) → TaggedInside at end r → r ≡ Tagged.Is b x → PastAt x t → PastInside at end t
 step-inside at end b x r (Step.Past y) i w q = let j = tagged-inside at end b x r i w in omega (arith, j)
 step-inside at end b x r (Step.Refused k p) i w q = tt

@@ -16,7 +16,7 @@ use Rattle.records.specs.declared.Record.{Record}
 use Rattle.records.specs.declared.Security.{Security}
 use Rattle.records.specs.declared.Part.{Part}
 use Rattle.records.specs.declared.FieldList.{FieldList}
-use Rattle.reader.specs.Set.{StepInside}
+use Rattle.reader.specs.Set.{PastInside}
 use Rattle.reader.specs.Content.{ofStepped}
 use Rattle.reader.specs.Lists.{ofList}
 use Rattle.reader.specs.Inside.{ListIn}
@@ -71,7 +71,7 @@ module _ (s : List ℕ) (o : Opening) (i : Opens s o) where
         said = record { attestation = a; keymint = m; challenge = c; unique = u; software = l; hardware = l₂ }
 
         -- the second list, and the end
-        lists-end : (t₂ : Step) → ofList s stop t₂ l₂ ≡ readList asPlace (a .version) y (slice y stop s) → StepInside y stop t₂
+        lists-end : (t₂ : Step) → ofList s stop t₂ l₂ ≡ readList asPlace (a .version) y (slice y stop s) → PastInside y stop t₂
             → readPlaces s ≡ ofStepped (closedStep t₂ stop (length s)) (placesOf said, n)
         unfolding listsFrom bind
         lists-end (Step.Refused k p) e₂ j = lists-at .reads ∙ rw (← e, z, ← e₂) refl
@@ -80,7 +80,7 @@ module _ (s : List ℕ) (o : Opening) (i : Opens s o) where
             ∙ (rw (← e, z, ← e₂, none-left s y₂ stop (j .1) (lists-at .fits)) refl
             ∙ sym (tests (placesOf said, n) y₂ stop (length s) (eqb y₂ stop) (eqb stop (length s))))
 
-        module _ (t₂ : Step) (e₂ : ofList s stop t₂ l₂ ≡ readList asPlace (a .version) y (slice y stop s)) (j : StepInside y stop t₂)
+        module _ (t₂ : Step) (e₂ : ofList s stop t₂ l₂ ≡ readList asPlace (a .version) y (slice y stop s)) (j : PastInside y stop t₂)
             (end : Step) (f : end ≡ closedStep t₂ stop (length s)) where
           ending : readPlaces s ≡ ofStepped end (placesOf said, n)
           ending = rw f (lists-end t₂ e₂ j)

@@ -79,13 +79,13 @@ module _ (s : List ℕ) (end : ℕ) where
   ofHead (Head.Refused k p) = refused k p
 
 -- a version of the schema, within its top
-abbrev pub Known : ℕ → Type 0
-Known v = T (knownVersion v) × (v ≤ top32)
+abbrev pub KnownVersion : ℕ → Type 0
+KnownVersion v = T (knownVersion v) × (v ≤ top32)
 
 -- what was read goes on and stays inside
 module _ (at end : ℕ) where
   abbrev pub VersionInside : Number → Type 0
-  VersionInside (Number.Is n x) = (at < x) × ((x ≤ end) × Known n)
+  VersionInside (Number.Is n x) = (at < x) × ((x ≤ end) × KnownVersion n)
   VersionInside (Number.Refused k p) = Unit {0}
 
   abbrev pub LevelInside : ℕ → Secured → Type 0
@@ -97,7 +97,7 @@ module _ (at end : ℕ) where
   SecuredInside (Secured.Refused k p) = Unit {0}
 
   abbrev pub AttestationInside : Secured → Type 0
-  AttestationInside (Secured.Is g x) = (at < x) × ((x ≤ end) × Known (g .version))
+  AttestationInside (Secured.Is g x) = (at < x) × ((x ≤ end) × KnownVersion (g .version))
   AttestationInside (Secured.Refused k p) = Unit {0}
 
   abbrev pub NamesInside : Names → Type 0
@@ -105,5 +105,5 @@ module _ (at end : ℕ) where
   NamesInside (Names.Refused k p) = Unit {0}
 
   abbrev pub HeadInside : Head → Type 0
-  HeadInside (Head.Is a m c u x) = (at < x) × ((x ≤ end) × (((c .start + c .len ≤ end) × (u .start + u .len ≤ end)) × Known (a .version)))
+  HeadInside (Head.Is a m c u x) = (at < x) × ((x ≤ end) × (((c .start + c .len ≤ end) × (u .start + u .len ≤ end)) × KnownVersion (a .version)))
   HeadInside (Head.Refused k p) = Unit {0}

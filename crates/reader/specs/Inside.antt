@@ -7,7 +7,7 @@ use Prim.Native.Nat.{ℕ, _+_, _<_, _≤_}
 use lib.ListN.{getD}
 use Rattle.schema.specs.Table.{Kind, octets, rowAt, rowCount}
 use Rattle.records.specs.Slots.{SetInSlots, InSlots}
-use Rattle.records.specs.Clear.{usesValue, usesSize, SpareClear, HashClear, Sized, ListClear}
+use Rattle.records.specs.Clear.{usesValue, usesSize, SpareClear, HashClear, RowsSized, ListClear}
 use Rattle.records.specs.declared.NumberSet.{NumberSet}
 use Rattle.records.specs.declared.FieldList.{FieldList}
 use Rattle.records.specs.declared.Record.{Record}
@@ -49,7 +49,7 @@ RootKept n h (Root.Is t x) = PartsIn n t × HashedAs h t
 RootKept n h (Root.Refused k p) = Unit {0}
 
 pub record ListIn (n : ℕ) (l : FieldList) : Type 0 where
-  pub sized : Sized l
+  pub sized : RowsSized l
   pub sets : InSlots l
   pub root : PartsIn n (l .root)
   pub octet : (k : ℕ) → k < rowCount → rowAt k .kind ≡ octets → getD (l .values) k 0 + getD (l .sizes) k 0 ≤ n

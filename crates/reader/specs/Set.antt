@@ -24,13 +24,13 @@ abbrev pub ofSet : List ℕ → ℕ → Step → NumberSet → Answer (Taken (Li
 ofSet s end (Step.Past x) g = got (taken (membersOf g) x (slice x end s))
 ofSet s end (Step.Refused k p) g = refused k p
 
-abbrev pub StepInside : ℕ → ℕ → Step → Type 0
-StepInside at end (Step.Past x) = (at < x) × (x ≤ end)
-StepInside at end (Step.Refused k p) = Unit {0}
+abbrev pub PastInside : ℕ → ℕ → Step → Type 0
+PastInside at end (Step.Past x) = (at < x) × (x ≤ end)
+PastInside at end (Step.Refused k p) = Unit {0}
 
-abbrev pub StepAt : ℕ → Step → Type 0
-StepAt end (Step.Past x) = x ≡ end
-StepAt end (Step.Refused k p) = Unit {0}
+abbrev pub PastAt : ℕ → Step → Type 0
+PastAt end (Step.Past x) = x ≡ end
+PastAt end (Step.Refused k p) = Unit {0}
 
 -- a set of one number below 128, in the five octets from `at` to end; of an answer from 128 on nothing is said, and the long way
 -- follows

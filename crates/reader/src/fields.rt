@@ -30,7 +30,7 @@ ghost use Prim.Native.Nat.{_≤_};
 ghost use lib.ListN.{length};
 ghost use lib.Seq.{slice};
 ghost use Rattle.schema.specs.Decode.{readList, asPlace};
-ghost use Rattle.reader.specs.Set.{StepAt, StepInside};
+ghost use Rattle.reader.specs.Set.{PastAt, PastInside};
 ghost use Rattle.reader.specs.Element.{opened, ofElement, ElementInside};
 ghost use Rattle.reader.specs.Fields.{FieldOpened};
 ghost use Rattle.reader.specs.Lists.{fieldsFrom, ofFields, ofList};
@@ -144,7 +144,7 @@ pub(crate) fn empty_list() -> FieldList
 fn read_fields(s: &[u8], at: usize, end: usize, version: u32) -> ListRead
     requires { ⌜ (at ≤ end) × (end ≤ length (now s)) ⌝ }
     ensures is { λ r. ⌜ ofFields (r .step) (r .list) ≡ fieldsFrom version at (slice at end (now (s .entry))) ⌝ }
-    ensures inside { λ r. ⌜ StepAt end (r .step) ⌝ }
+    ensures inside { λ r. ⌜ PastAt end (r .step) ⌝ }
     ensures bounds { λ r. ⌜ ListIn (length (now (s .entry))) (r .list) ⌝ }
 {
     let mut list = empty_list();
@@ -237,7 +237,7 @@ fn read_fields(s: &[u8], at: usize, end: usize, version: u32) -> ListRead
 pub(crate) fn read_list(s: &[u8], at: usize, end: usize, version: u32) -> ListRead
     requires { ⌜ end ≤ length (now s) ⌝ }
     ensures is { λ r. ⌜ ofList (now (s .entry)) end (r .step) (r .list) ≡ readList asPlace version at (slice at end (now (s .entry))) ⌝ }
-    ensures inside { λ r. ⌜ StepInside at end (r .step) ⌝ }
+    ensures inside { λ r. ⌜ PastInside at end (r .step) ⌝ }
     ensures bounds { λ r. ⌜ ListIn (length (now (s .entry))) (r .list) ⌝ }
 {
     match open_tagged(s, at, end, 1, 16) {

@@ -14,7 +14,7 @@ ghost use lib.ListN.{length};
 ghost use lib.Seq.{slice};
 ghost use Rattle.schema.specs.Decode.{readVersion};
 ghost use Rattle.reader.specs.Leaf.{ofNumber};
-ghost use Rattle.reader.specs.Head.{levelAfter, readAttestation, readKeymint, readNames, headAfter, readHead, ofSecured, ofNames, ofHead, VersionInside, LevelInside, SecuredInside, AttestationInside, NamesInside, HeadInside, Known};
+ghost use Rattle.reader.specs.Head.{levelAfter, readAttestation, readKeymint, readNames, headAfter, readHead, ofSecured, ofNames, ofHead, VersionInside, LevelInside, SecuredInside, AttestationInside, NamesInside, HeadInside, KnownVersion};
 
 // A version with its security level, and the next place; or a refusal with its place.
 pub(crate) enum Secured {
@@ -134,7 +134,7 @@ pub(crate) fn read_names(s: &[u8], at: usize, end: usize) -> Names
 
 // What follows the attestation's version and level.
 fn read_after(s: &[u8], at: usize, end: usize, attestation: Security) -> Head
-    requires { ⌜ (end ≤ length (now s)) × Known (attestation .version) ⌝ }
+    requires { ⌜ (end ≤ length (now s)) × KnownVersion (attestation .version) ⌝ }
     ensures is { λ r. ⌜ ofHead (now (s .entry)) end r ≡ headAfter (attestation .version, attestation .level) at (slice at end (now (s .entry))) ⌝ }
     ensures inside { λ r. ⌜ HeadInside at end r ⌝ }
 {

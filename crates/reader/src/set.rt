@@ -11,7 +11,7 @@ ghost use Prim.Native.Nat.{_≤_};
 ghost use lib.ListN.{length};
 ghost use lib.Seq.{slice};
 ghost use Rattle.schema.specs.Decode.{readSet};
-ghost use Rattle.reader.specs.Set.{ofMembers, ofSet, membersFrom, OneMember, setOfOne, StepAt, StepInside};
+ghost use Rattle.reader.specs.Set.{ofMembers, ofSet, membersFrom, OneMember, setOfOne, PastAt, PastInside};
 ghost use Rattle.records.specs.Empty.{emptySet};
 ghost use Rattle.reader.specs.Inside.{StepSlots};
 
@@ -40,7 +40,7 @@ pub(crate) fn empty_set() -> NumberSet
 fn read_members(s: &[u8], at: usize, end: usize) -> SetRead
     requires { ⌜ (at ≤ end) × (end ≤ length (now s)) ⌝ }
     ensures is { λ r. ⌜ ofMembers (r .step) (r .set) ≡ membersFrom at (slice at end (now (s .entry))) ⌝ }
-    ensures inside { λ r. ⌜ StepAt end (r .step) ⌝ }
+    ensures inside { λ r. ⌜ PastAt end (r .step) ⌝ }
     ensures slots { λ r. ⌜ StepSlots (r .step) (r .set) ⌝ }
 {
     let mut set = empty_set();
@@ -86,7 +86,7 @@ fn read_members(s: &[u8], at: usize, end: usize) -> SetRead
 pub(crate) fn read_set(s: &[u8], at: usize, end: usize) -> SetRead
     requires { ⌜ end ≤ length (now s) ⌝ }
     ensures is { λ r. ⌜ ofSet (now (s .entry)) end (r .step) (r .set) ≡ readSet at (slice at end (now (s .entry))) ⌝ }
-    ensures inside { λ r. ⌜ StepInside at end (r .step) ⌝ }
+    ensures inside { λ r. ⌜ PastInside at end (r .step) ⌝ }
     ensures slots { λ r. ⌜ StepSlots (r .step) (r .set) ⌝ }
 {
     match open_tagged(s, at, end, 1, 17) {

@@ -13,6 +13,7 @@ use records::Part;
 use records::Record;
 use records::RootOfTrust;
 use records::Security;
+use schema::ROWS;
 ghost use Prim.Native.Nat.{_<_};
 
 // The part whose start and length stand at at.
@@ -70,9 +71,9 @@ fn empty_list() -> FieldList {
         count: 0,
     };
     FieldList {
-        present: [false; 42],
-        values: [0; 42],
-        sizes: [0; 42],
+        present: [false; ROWS],
+        values: [0; ROWS],
+        sizes: [0; ROWS],
         purpose: none,
         digest: none,
         padding: none,
@@ -122,7 +123,7 @@ fn with_field(list: FieldList, s: &[u8], at: usize) -> FieldList
     let number = word(s, at) as usize;
     let mut l = with_inner(list, s, at, number);
     let row = schema::row_of(number);
-    if row < 42 {
+    if row < ROWS {
         l.present[row] = flag(s, at + 8);
         l.values[row] = word(s, at + 16);
         l.sizes[row] = word(s, at + 24);

@@ -12,7 +12,7 @@ use lib.ListN.{length, getD, take, drop}
 use Rattle.answer.specs.Answer.{pick}
 use Rattle.answer.proofs.Logic.{and-left, and-right, and-both, by-le}
 use Rattle.codec.specs.Element.{chainGood}
-use Rattle.schema.specs.Table.{Kind, set, number32, number64, null, octets, root, rowAt, knownVersion, heldIn, levelTop, hashed, top32}
+use Rattle.schema.specs.Table.{Kind, set, number32, number64, null, octets, root, rowAt, knownVersion, heldIn, levelTop, hashed, top32, rowCount}
 use Rattle.schema.specs.Content.{FieldWith, field, memberGood, afterMember, hashGood, valueGood, rowGood, fieldGood, afterField, listGood, wellShaped}
 use Rattle.records.specs.declared.NumberSet.{NumberSet}
 use Rattle.records.specs.declared.FieldList.{FieldList}
@@ -116,7 +116,7 @@ parted v low (x ∷ xs) ys t =
     (and-both (fieldGood v low x) _ (and-left (fieldGood v low x) _ t) (p .0), p .1)
 
 module _ {O : Type 0} (v : ℕ) (l : FieldList) (part : ℕ → ℕ → O) (i : InSlots l) where
-  row-shaped : (k low : ℕ) → k < 42 → (b : Bool) → T (chainGood (fieldGood v) afterField low (pick b (field (rowAt k .number) (valueAt l part (rowAt k .number) (rowAt k .kind) k) ∷ []) []))
+  row-shaped : (k low : ℕ) → k < rowCount → (b : Bool) → T (chainGood (fieldGood v) afterField low (pick b (field (rowAt k .number) (valueAt l part (rowAt k .number) (rowAt k .kind) k) ∷ []) []))
       → T (pick b (heldIn v (rowAt k) && valueShaped v (rowAt k .kind) (getD (l .values) k 0) (setAt l (rowAt k .number)) (l .root)) true)
   unfolding pick fieldGood rowGood
   row-shaped k low h true t =
@@ -126,7 +126,7 @@ module _ {O : Type 0} (v : ℕ) (l : FieldList) (part : ℕ → ℕ → O) (i : 
       and-both (heldIn v (rowAt k)) _ (and-left (heldIn v (rowAt k)) _ w) (value-shaped v l part (rowAt k .number) k (rowAt k .kind) i (and-right (heldIn v (rowAt k)) _ w))
   row-shaped k low h false t = tt
 
-  rows-shaped : (n : ℕ) → n ≤ 42 → T (chainGood (fieldGood v) afterField 0 (upTo (fieldAt l part) n)) → (k : ℕ) → k < n → rowShaped v l k ≡ true
+  rows-shaped : (n : ℕ) → n ≤ rowCount → T (chainGood (fieldGood v) afterField 0 (upTo (fieldAt l part) n)) → (k : ℕ) → k < n → rowShaped v l k ≡ true
   unfolding upTo fieldAt rowShaped
   rows-shaped zero h t k g = absurd (omega arith)
   rows-shaped (suc n) h t k g =
@@ -137,7 +137,7 @@ module _ {O : Type 0} (v : ℕ) (l : FieldList) (part : ℕ → ℕ → O) (i : 
 
   list-shaped : T (listGood v (fieldsOf l part)) → T (listShaped v l)
   unfolding listShaped listGood
-  list-shaped t = so _ (all-of (rowShaped v l) 42 (rows-shaped 42 (omega arith) t))
+  list-shaped t = so _ (all-of (rowShaped v l) rowCount (rows-shaped rowCount (omega arith) t))
 
 -- a record whose sets are within their slots and that says a well-shaped content is well-shaped
 pub content-shaped : {O : Type 0} (r : Record) (part : ℕ → ℕ → O) → InSlots (r .software) → InSlots (r .hardware) → T (wellShaped (contentWith part r)) → T (wellShapedRecord r)

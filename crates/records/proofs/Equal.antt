@@ -7,7 +7,7 @@ use mathlib.Core.List.{List, [], _∷_}
 use Prim.Native.Nat.{ℕ, zero, suc, _<_}
 use native.Mathlib.Omega.{arith}
 use Rattle.answer.specs.Answer.{pick}
-use Rattle.schema.specs.Table.{rowAt}
+use Rattle.schema.specs.Table.{rowAt, rowCount}
 use Rattle.schema.specs.Content.{Value, Field, field, Content}
 use Rattle.records.specs.declared.FieldList.{FieldList}
 use Rattle.records.specs.declared.Record.{Record}
@@ -42,7 +42,7 @@ module _ (l : FieldList) (s : List ℕ) (l′ : FieldList) (s′ : List ℕ) whe
 
   -- lists that hold the same rows say the same fields, and the other way
   pub same-fields : SameFields l s l′ s′ → fieldsOf l (octetsAt s) ≡ fieldsOf l′ (octetsAt s′)
-  same-fields e = rows-fields 42 e
+  same-fields e = rows-fields rowCount e
 
   pub fields-same : fieldsOf l (octetsAt s) ≡ fieldsOf l′ (octetsAt s′) → SameFields l s l′ s′
   fields-same e k h =

@@ -11,7 +11,7 @@ use lib.ListN.{length, getD}
 use borrow.Author.Tests.{eq-eqb, ne-eqb}
 use Rattle.answer.specs.Answer.{pick}
 use Rattle.answer.proofs.Logic.{by-le}
-use Rattle.schema.specs.Table.{Row, row, null, rows, rowAt, indexOf, find}
+use Rattle.schema.specs.Table.{Row, row, null, rows, rowAt, indexOf, find, rowCount}
 use Rattle.schema.specs.Content.{ValueWith, FieldWith, field}
 use Rattle.schema.proofs.Table.{above, find-place}
 use Rattle.records.specs.declared.FieldList.{FieldList}
@@ -20,7 +20,7 @@ use Rattle.records.specs.Fields.{fieldValue}
 
 -- ---- a row's number and its place
 
-pub rows-differ : (j k : ℕ) → j < 42 → k < 42 → (j ≡ k → ⊥) → rowAt j .number ≡ rowAt k .number → ⊥
+pub rows-differ : (j k : ℕ) → j < rowCount → k < rowCount → (j ≡ k → ⊥) → rowAt j .number ≡ rowAt k .number → ⊥
 rows-differ j k h g n e =
     by-le j k
     (λ m. by-le k j (λ o. n (omega arith)) (λ o. absurd (omega (arith, above j k o g))))
@@ -36,7 +36,7 @@ place-below (r ∷ rs) d (suc k) h = go (eqb (r .number) (getD rs k d .number)) 
     go true i = omega arith
     go false i = omega arith
 
-pub row-found : (k : ℕ) → k < 42 → find rows (rowAt k .number) ≡ some (rowAt k)
+pub row-found : (k : ℕ) → k < rowCount → find rows (rowAt k .number) ≡ some (rowAt k)
 unfolding rows
 row-found k h =
     let i = place-below rows (row 0 null 1 0) k h in
@@ -93,7 +93,7 @@ module _ {O : Type 0} (l : FieldList) (part : ℕ → ℕ → O) where
       left-none (upTo (fieldAt l part) m) (fieldAt l part m) n (no-row-has m n (λ k g. h k (omega arith)))
       ∙ one-row m n (h m (omega arith))
 
-  row-of-some : (m k : ℕ) → k < m → m ≤ 42 → fieldValue (upTo (fieldAt l part) m) (rowAt k .number) ≡ fieldValue (fieldAt l part k) (rowAt k .number)
+  row-of-some : (m k : ℕ) → k < m → m ≤ rowCount → fieldValue (upTo (fieldAt l part) m) (rowAt k .number) ≡ fieldValue (fieldAt l part k) (rowAt k .number)
   unfolding upTo
   row-of-some zero k h g = absurd (omega arith)
   row-of-some (suc m) k h g =
@@ -104,5 +104,5 @@ module _ {O : Type 0} (l : FieldList) (part : ℕ → ℕ → O) where
       ∙ row-of-some m k o (omega arith))
 
   -- the value of a row's number is the row's
-  pub row-value : (k : ℕ) → k < 42 → fieldValue (fieldsOf l part) (rowAt k .number) ≡ pick (getD (l .present) k false) (some (valueAt l part (rowAt k .number) (rowAt k .kind) k)) none
-  row-value k h = row-of-some 42 k h (omega arith) ∙ own-row k
+  pub row-value : (k : ℕ) → k < rowCount → fieldValue (fieldsOf l part) (rowAt k .number) ≡ pick (getD (l .present) k false) (some (valueAt l part (rowAt k .number) (rowAt k .kind) k)) none
+  row-value k h = row-of-some rowCount k h (omega arith) ∙ own-row k

@@ -10,15 +10,15 @@ use lib.ListN.{length, getD, take, replicate, length-map, length-append, length-
 use lib.Seq.{ext-getD, getD-take, length-take-le, getD-append-add}
 use Rattle.answer.specs.Answer.{pick}
 use Rattle.answer.proofs.Logic.{by-le}
-use Rattle.schema.specs.Table.{Kind, set, number32, number64, null, octets, root, Row, row, rows, rowAt}
+use Rattle.schema.specs.Table.{Kind, set, number32, number64, null, octets, root, Row, row, rows, rowAt, rowCount}
 use Rattle.schema.specs.Content.{ValueWith, num, nul, oct, nums, trust, FieldWith, Place, placeAt}
 use Rattle.records.specs.Fields.{fieldValue}
 use Rattle.records.specs.Content.{membersOf, rootOf, setAt, valueAt, fieldsOf, placesOf}
 use Rattle.records.specs.Equal.{presentAt}
 use Rattle.records.specs.Slots.{SetInSlots, InSlots}
 use Rattle.records.specs.Empty.{emptySet, emptyRoot, emptyList, emptyRecord}
-use Rattle.records.specs.Made.{partAt, isThere, valueWord, sizeWord, orZero, setOf, membersIn, isHashed, hashAt, rootMade, rootIn, listMade, recordMade}
-use Rattle.records.specs.Clear.{usesValue, usesSize, SpareClear, HashClear, SetClear, RootClear, Sized, ListClear}
+use Rattle.records.specs.Made.{partAt, isThere, valueWord, sizeWord, orZero, setMade, membersIn, isHashed, hashAt, rootMade, rootIn, listMade, recordMade}
+use Rattle.records.specs.Clear.{usesValue, usesSize, SpareClear, HashClear, SetClear, RootClear, RowsSized, ListClear}
 use Rattle.records.specs.declared.NumberSet.{NumberSet}
 use Rattle.records.specs.declared.RootOfTrust.{RootOfTrust}
 use Rattle.records.specs.declared.FieldList.{FieldList}
@@ -30,13 +30,13 @@ getD-map f [] i d e h = absurd (omega arith)
 getD-map f (x ∷ l) zero d e h = refl
 getD-map f (x ∷ l) (suc i) d e h = getD-map f l i d e (omega arith)
 
-pub rows-length : length rows ≡ 42
+pub rows-length : length rows ≡ rowCount
 unfolding rows
 rows-length = refl
 
 -- ---- rows
 
-module _ (l : FieldList) (z : Sized l) (c : ListClear l) where
+module _ (l : FieldList) (z : RowsSized l) (c : ListClear l) where
   abbrev there : ℕ → Option (ValueWith Place)
   there n = fieldValue (fieldsOf l placeAt) n
 
@@ -65,9 +65,9 @@ module _ (l : FieldList) (z : Sized l) (c : ListClear l) where
   size-there k n octets true h = refl
   size-there k n root true h = sym (h refl)
 
-  by-rows : {A : Type 0} (f : Option (ValueWith Place) → A) (d : A) (xs : List A) → length xs ≡ 42 → ((k : ℕ) → k < 42 → f (there (rowAt k .number)) ≡ getD xs k d) → map (λ (r : Row). f (there (r .number))) rows ≡ xs
+  by-rows : {A : Type 0} (f : Option (ValueWith Place) → A) (d : A) (xs : List A) → length xs ≡ rowCount → ((k : ℕ) → k < rowCount → f (there (rowAt k .number)) ≡ getD xs k d) → map (λ (r : Row). f (there (r .number))) rows ≡ xs
   by-rows {A} f d xs s h =
-      let m : length (map (λ (r : Row). f (there (r .number))) rows) ≡ 42 = length-map rows (λ (r : Row). f (there (r .number))) ∙ rows-length in
+      let m : length (map (λ (r : Row). f (there (r .number))) rows) ≡ rowCount = length-map rows (λ (r : Row). f (there (r .number))) ∙ rows-length in
       ext-getD d (map (λ (r : Row). f (there (r .number))) rows) xs (m ∙ sym s)
       (λ i b. getD-map (λ (r : Row). f (there (r .number))) rows i (row 0 null 1 0) d (omega (arith, m, rows-length)) ∙ h i (omega (arith, m)))
 
@@ -100,10 +100,10 @@ module _ (g : NumberSet) (s : SetInSlots g) (c : SpareClear g) where
       ∙ sym (c i p h))
       (λ p. List·getD-append (membersOf g) (replicate 16 0) 0 i (omega (arith, counted)) ∙ getD-take (g .count) (g .members) i 0 p)
 
-  pub set-made : setOf (membersOf g) ≡ g
+  pub set-made : setMade (membersOf g) ≡ g
   set-made = rw (counted, ext-getD 0 (take 16 (membersOf g ++ replicate 16 0)) (g .members) (padded ∙ sym (s .1)) (λ i h. slot i (omega (arith, padded)))) refl
 
-set-there : (b : Bool) (g : NumberSet) → SetInSlots g → SetClear b g → setOf (membersIn (pick b (some (nums (membersOf g))) none)) ≡ g
+set-there : (b : Bool) (g : NumberSet) → SetInSlots g → SetClear b g → setMade (membersIn (pick b (some (nums (membersOf g))) none)) ≡ g
 unfolding membersIn pick
 set-there true g s c = set-made g s (c .spare)
 set-there false g s c = sym (c .absent refl)
@@ -127,27 +127,27 @@ root-there false t c = sym (c .absent refl)
 
 -- ---- a list, and the record
 
-module _ (l : FieldList) (z : Sized l) (s : InSlots l) (c : ListClear l) where
+module _ (l : FieldList) (z : RowsSized l) (s : InSlots l) (c : ListClear l) where
   abbrev said : ℕ → Option (ValueWith Place)
   said n = fieldValue (fieldsOf l placeAt) n
 
   -- the set of row k is the one that the list has for its number
-  a-set : (k : ℕ) (h : k < 42) (g : NumberSet) → valueAt l placeAt (rowAt k .number) (rowAt k .kind) k ≡ nums (membersOf g) → SetInSlots g → SetClear (presentAt l k) g → setOf (membersIn (said (rowAt k .number))) ≡ g
+  a-set : (k : ℕ) (h : k < rowCount) (g : NumberSet) → valueAt l placeAt (rowAt k .number) (rowAt k .kind) k ≡ nums (membersOf g) → SetInSlots g → SetClear (presentAt l k) g → setMade (membersIn (said (rowAt k .number))) ≡ g
   a-set k h g e i d = rw (row-value l placeAt k h, e) (set-there (presentAt l k) g i d)
 
-  purpose-made : setOf (membersIn (said 1)) ≡ l .purpose
+  purpose-made : setMade (membersIn (said 1)) ≡ l .purpose
   unfolding rows valueAt pick
   purpose-made = a-set 0 (omega arith) (l .purpose) refl (s .purpose) (c .purpose)
 
-  digest-made : setOf (membersIn (said 5)) ≡ l .digest
+  digest-made : setMade (membersIn (said 5)) ≡ l .digest
   unfolding rows valueAt pick
   digest-made = a-set 3 (omega arith) (l .digest) refl (s .digest) (c .digest)
 
-  padding-made : setOf (membersIn (said 6)) ≡ l .padding
+  padding-made : setMade (membersIn (said 6)) ≡ l .padding
   unfolding rows valueAt pick
   padding-made = a-set 4 (omega arith) (l .padding) refl (s .padding) (c .padding)
 
-  mgf-made : setOf (membersIn (said 203)) ≡ l .mgf
+  mgf-made : setMade (membersIn (said 203)) ≡ l .mgf
   unfolding rows valueAt pick
   mgf-made = a-set 7 (omega arith) (l .mgf) refl (s .mgf) (c .mgf)
 
@@ -159,12 +159,12 @@ module _ (l : FieldList) (z : Sized l) (s : InSlots l) (c : ListClear l) where
   list-made = rw (present-made l z c, values-made l z c, sizes-made l z c, purpose-made, digest-made, padding-made, mgf-made, its-root) refl
 
 -- the record is just what its places make
-pub record-made : (r : Record) → Sized (r .software) → InSlots (r .software) → ListClear (r .software) → Sized (r .hardware) → InSlots (r .hardware) → ListClear (r .hardware) → recordMade (placesOf r) ≡ r
+pub record-made : (r : Record) → RowsSized (r .software) → InSlots (r .software) → ListClear (r .software) → RowsSized (r .hardware) → InSlots (r .hardware) → ListClear (r .hardware) → recordMade (placesOf r) ≡ r
 record-made r z s c y i d = rw (list-made (r .software) z s c, list-made (r .hardware) y i d) refl
 
 -- ---- a record of nothing
 
-pub empty-sized : Sized emptyList
+pub empty-sized : RowsSized emptyList
 empty-sized = record { present = refl; values = refl; sizes = refl }
 
 pub empty-slots : InSlots emptyList
@@ -178,8 +178,8 @@ set-nothing b = record { spare = empty-spare; absent = λ e. refl }
 
 pub empty-clear : ListClear emptyList
 empty-clear = record {
-  value = λ k h e. getD-replicate {A = ℕ} 42 k 0 0 h;
-  size = λ k h e. getD-replicate {A = ℕ} 42 k 0 0 h;
+  value = λ k h e. getD-replicate {A = ℕ} rowCount k 0 0 h;
+  size = λ k h e. getD-replicate {A = ℕ} rowCount k 0 0 h;
   purpose = set-nothing _;
   digest = set-nothing _;
   padding = set-nothing _;

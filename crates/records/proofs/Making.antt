@@ -13,14 +13,14 @@ use borrow.Author.Tests.{eq-eqb, ne-eqb, eqb-true, eqb-false}
 use Rattle.answer.specs.Answer.{pick}
 use Rattle.answer.proofs.Logic.{by-le, and-left, and-right}
 use Rattle.codec.specs.Element.{chainGood}
-use Rattle.schema.specs.Table.{Kind, isKind, set, number32, number64, null, octets, root, Row, row, rows, rowAt, indexOf, find, heldIn, hashed, knownVersion, levelTop, top32}
+use Rattle.schema.specs.Table.{Kind, isKind, set, number32, number64, null, octets, root, Row, row, rows, rowAt, indexOf, find, heldIn, hashed, knownVersion, levelTop, top32, rowCount}
 use Rattle.schema.specs.Content.{RootWith, ValueWith, num, nul, oct, nums, trust, FieldWith, field, Place, placeAt, Places, memberGood, afterMember, valueGood, rowGood, fieldGood, afterField, listGood, wellShaped}
 use Rattle.schema.proofs.Codecs.{shaped}
 use Rattle.schema.proofs.Table.{above, find-place, find-none}
 use Rattle.records.specs.Fields.{fieldValue}
 use Rattle.records.specs.Content.{membersOf, rootOf, setAt, valueAt, fieldAt, upTo, fieldsOf, placesOf}
 use Rattle.records.specs.Slots.{SetInSlots, InSlots}
-use Rattle.records.specs.Made.{isThere, valueWord, sizeWord, orZero, setOf, membersIn, isHashed, hashAt, rootMade, rootIn, listMade, recordMade}
+use Rattle.records.specs.Made.{isThere, valueWord, sizeWord, orZero, setMade, membersIn, isHashed, hashAt, rootMade, rootIn, listMade, recordMade}
 use Rattle.records.specs.declared.FieldList.{FieldList}
 use Rattle.records.proofs.Placed.{by-set, by-root}
 use Rattle.records.proofs.Fields.{rows-differ, row-found}
@@ -35,7 +35,7 @@ members-few s (n ∷ l) h t =
     let m = ltb→lt (s .0) 16 (and-left (ltb (s .0) 16) _ (and-left (memberGood s n) _ t)) in
     omega (arith, members-few (afterMember s n) l (omega arith) (and-right (memberGood s n) _ t))
 
-members-back : (l : List ℕ) → length l ≤ 16 → membersOf (setOf l) ≡ l
+members-back : (l : List ℕ) → length l ≤ 16 → membersOf (setMade l) ≡ l
 members-back l h = take-take (length l) 16 (l ++ replicate 16 0) h ∙ take-append-seam l (replicate 16 0)
 
 hash-back : (h : Option Place) → pick (isHashed h) (some (placeAt (hashAt h .start) (hashAt h .len))) none ≡ h
@@ -65,14 +65,14 @@ value-good v low n (f ∷ fs) x t e = go (eqb (f .number) n) refl e (value-good 
     go true q e i = let y : f .value ≡ x = cc in rw (← eqb-true (f .number) n q, ← y) here
     go false q e i = i e
 
-module _ (v : ℕ) (fs : List (FieldWith Place)) (k : ℕ) (h : k < 42) where
+module _ (v : ℕ) (fs : List (FieldWith Place)) (k : ℕ) (h : k < rowCount) where
   abbrev n : ℕ
   n = rowAt k .number
 
   word : (f : Option (ValueWith Place) → ℕ) → getD (map (λ (r : Row). f (fieldValue fs (r .number))) rows) k 0 ≡ f (fieldValue fs n)
   word f = getD-map (λ (r : Row). f (fieldValue fs (r .number))) rows k (row 0 null 1 0) 0 (omega (arith, rows-length))
 
-  set-there : rowAt k .kind ≡ set → setAt (listMade fs) n ≡ setOf (membersIn (fieldValue fs n))
+  set-there : rowAt k .kind ≡ set → setAt (listMade fs) n ≡ setMade (membersIn (fieldValue fs n))
   unfolding rows pick
   set-there s = by-set k h s (λ q. rw q refl) (λ q. rw q refl) (λ q. rw q refl) (λ q. rw q refl)
 
@@ -113,10 +113,10 @@ low-none v low n (f ∷ fs) t h =
     rw (ne-eqb (f .number) n (omega arith)) (low-none v (f .number + 1) n fs (and-right (fieldGood v low f) _ t) (omega arith))
 
 -- the row of a number that a version holds
-held-row : (v n : ℕ) (x : ValueWith Place) → T (rowGood v (find rows n) x) → (indexOf rows n < 42) × (rowAt (indexOf rows n) .number ≡ n)
+held-row : (v n : ℕ) (x : ValueWith Place) → T (rowGood v (find rows n) x) → (indexOf rows n < rowCount) × (rowAt (indexOf rows n) .number ≡ n)
 unfolding rowGood
 held-row v n x t =
-    by-le 42 (indexOf rows n)
+    by-le rowCount (indexOf rows n)
     (λ h. absurd (rw (find-none rows n (omega (arith, rows-length))) at t))
     (λ h. (h, find-place rows n (row 0 null 1 0) (omega (arith, rows-length)) .1))
 
@@ -124,18 +124,18 @@ no-rows : (F : ℕ → List (FieldWith Place)) → upTo F 0 ≡ []
 unfolding upTo
 no-rows F = refl
 
-all-rows : (v low : ℕ) (fs : List (FieldWith Place)) → T (chainGood (fieldGood v) afterField low fs) → upTo (λ k. justOne (rowAt k .number) (fieldValue fs (rowAt k .number))) 42 ≡ fs
+all-rows : (v low : ℕ) (fs : List (FieldWith Place)) → T (chainGood (fieldGood v) afterField low fs) → upTo (λ k. justOne (rowAt k .number) (fieldValue fs (rowAt k .number))) rowCount ≡ fs
 unfolding fieldValue pick fieldGood
-all-rows v low [] t = upTo-to (λ k. []) 0 42 (omega arith) (λ k a b. refl) ∙ no-rows (λ k. [])
+all-rows v low [] t = upTo-to (λ k. []) 0 rowCount (omega arith) (λ k a b. refl) ∙ no-rows (λ k. [])
 all-rows v low (f ∷ fs) t =
     let r = held-row v (f .number) (f .value) (and-right (leb low (f .number)) _ (and-left (fieldGood v low f) _ t)) in
     let t′ = and-right (fieldGood v low f) _ t in
-    upTo-first (λ k. justOne (rowAt k .number) (fieldValue fs (rowAt k .number))) (λ k. justOne (rowAt k .number) (fieldValue (f ∷ fs) (rowAt k .number))) 42 (indexOf rows (f .number)) (r .0)
+    upTo-first (λ k. justOne (rowAt k .number) (fieldValue fs (rowAt k .number))) (λ k. justOne (rowAt k .number) (fieldValue (f ∷ fs) (rowAt k .number))) rowCount (indexOf rows (f .number)) (r .0)
     (λ k b ne. rw (ne-eqb (f .number) (rowAt k .number) (λ q. rows-differ k (indexOf rows (f .number)) b (r .0) ne (sym q ∙ sym (r .1)))) refl)
     (λ k a b. rw (low-none v (f .number + 1) (rowAt k .number) fs t′ (below k a b (r .0) (r .1))) refl)
     ∙ rw (r .1, eq-eqb (f .number) (f .number) refl, all-rows v (f .number + 1) fs t′) refl
   where
-    below : (k : ℕ) → k ≤ indexOf rows (f .number) → k < 42 → indexOf rows (f .number) < 42 → rowAt (indexOf rows (f .number)) .number ≡ f .number → rowAt k .number < f .number + 1
+    below : (k : ℕ) → k ≤ indexOf rows (f .number) → k < rowCount → indexOf rows (f .number) < rowCount → rowAt (indexOf rows (f .number)) .number ≡ f .number → rowAt k .number < f .number + 1
     below k a b c e =
         by-le (indexOf rows (f .number)) k
         (λ p. let q : k ≡ indexOf rows (f .number) = omega arith in rw (q, e) (omega arith))
@@ -162,7 +162,7 @@ unfolding membersIn
 few v fs t n none e = omega arith
 few v fs t n (some x) e = few-of v (find rows n) x (value-good v 0 n fs x t e)
 
-in-slots : (l : List ℕ) → length l ≤ 16 → SetInSlots (setOf l)
+in-slots : (l : List ℕ) → length l ≤ 16 → SetInSlots (setMade l)
 in-slots l h = (h, length-take-le 16 (l ++ replicate 16 0) (omega (arith, length-append l (replicate 16 0), length-replicate {A = ℕ} 16 0)))
 
 list-slots : (v : ℕ) (fs : List (FieldWith Place)) → T (listGood v fs) → InSlots (listMade fs)
@@ -178,7 +178,7 @@ list-slots v fs t = record {
 module _ (c : Places) (t : T (wellShaped c)) where
   list-says : (v : ℕ) (fs : List (FieldWith Place)) → T (listGood v fs) → fieldsOf (listMade fs) placeAt ≡ fs
   unfolding listGood
-  list-says v fs g = upTo-agree (fieldAt (listMade fs) placeAt) (λ k. justOne (rowAt k .number) (fieldValue fs (rowAt k .number))) 42 (λ k h. row-back v fs k h 0 g) ∙ all-rows v 0 fs g
+  list-says v fs g = upTo-agree (fieldAt (listMade fs) placeAt) (λ k. justOne (rowAt k .number) (fieldValue fs (rowAt k .number))) rowCount (λ k h. row-back v fs k h 0 g) ∙ all-rows v 0 fs g
 
   pub made-says : placesOf (recordMade c) ≡ c
   unfolding wellShaped

@@ -9,7 +9,7 @@ use lib.Dec.{T, leb, le→leb}
 use lib.ListN.{getD}
 use Rattle.answer.specs.Answer.{pick}
 use Rattle.answer.proofs.Logic.{by-le, and-both}
-use Rattle.schema.specs.Table.{Kind, set, number32, number64, null, octets, root, rowAt}
+use Rattle.schema.specs.Table.{Kind, set, number32, number64, null, octets, root, rowAt, rowCount}
 use Rattle.schema.specs.Content.{FieldWith, field, Place, placeAt}
 use Rattle.schema.specs.Parts.{HashIs, ValueIs, FieldsAre, EachPart}
 use Rattle.records.specs.Content.{rootOf, valueAt, fieldAt, upTo, fieldsOf, placesOf}
@@ -57,9 +57,9 @@ module _ (n : ℕ) where
   is-true true t = refl
   is-true false t = absurd t
 
-  row-inside : (l : FieldList) → FieldsAre Lies (fieldsOf l placeAt) → (k : ℕ) → k < 42 → rowInside l n k ≡ true
+  row-inside : (l : FieldList) → FieldsAre Lies (fieldsOf l placeAt) → (k : ℕ) → k < rowCount → rowInside l n k ≡ true
   unfolding rowInside fieldAt pick
-  row-inside l y k h = is-true _ (go (getD (l .present) k false) (at-row (fieldAt l placeAt) 42 k h y))
+  row-inside l y k h = is-true _ (go (getD (l .present) k false) (at-row (fieldAt l placeAt) rowCount k h y))
     where
       go : (b : Bool) → FieldsAre Lies (pick b (field (rowAt k .number) (valueAt l placeAt (rowAt k .number) (rowAt k .kind) k) ∷ []) []) → T (pick b (contentInside (rowAt k .kind) (getD (l .values) k 0) (getD (l .sizes) k 0) (l .root) n) true)
       go true z = content-inside l (rowAt k .number) k (rowAt k .kind) (z .0)
@@ -67,7 +67,7 @@ module _ (n : ℕ) where
 
   list-inside : (l : FieldList) → FieldsAre Lies (fieldsOf l placeAt) → T (listInside l n)
   unfolding listInside
-  list-inside l y = rw (all-of (rowInside l n) 42 (row-inside l y)) tt
+  list-inside l y = rw (all-of (rowInside l n) rowCount (row-inside l y)) tt
 
   pub parts-lie : (r : Record) → EachPart Lies (placesOf r) → T (partsInside r n)
   unfolding partsInside

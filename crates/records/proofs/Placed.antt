@@ -10,7 +10,7 @@ use lib.ListN.{length, getD}
 use Rattle.answer.specs.Answer.{pick}
 use Rattle.answer.proofs.Logic.{and-left, and-right}
 use Rattle.schema.specs.Table as table
-use Rattle.schema.specs.Table.{Kind, number32, number64, null, octets, root, Row, row, rows, rowAt}
+use Rattle.schema.specs.Table.{Kind, number32, number64, null, octets, root, Row, row, rows, rowAt, rowCount}
 
 isSet : Kind → Bool
 isSet table.set = true
@@ -44,7 +44,7 @@ every-at i (r ∷ rs) d t (suc k) h =
     let e : i + suc k ≡ suc i + k = omega arith in
     rw e (every-at (suc i) rs d (and-right (placed i (r .kind)) _ t) k (omega arith))
 
-kind-placed : (k : ℕ) → k < 42 → T (placed k (rowAt k .kind))
+kind-placed : (k : ℕ) → k < rowCount → T (placed k (rowAt k .kind))
 unfolding rows every placed isSet isRoot pick
 kind-placed k h = rw zero-add at (every-at 0 rows (row 0 null 1 0) tt k h)
 
@@ -52,7 +52,7 @@ or-case {ℓ} : {X : Type ℓ} (a b : Bool) → T (a || b) → (T a → X) → (
 or-case true b t f g = f tt
 or-case false b t f g = g t
 
-pub by-set {ℓ} : {X : Type ℓ} (k : ℕ) → k < 42 → rowAt k .kind ≡ table.set → (k ≡ 0 → X) → (k ≡ 3 → X) → (k ≡ 4 → X) → (k ≡ 7 → X) → X
+pub by-set {ℓ} : {X : Type ℓ} (k : ℕ) → k < rowCount → rowAt k .kind ≡ table.set → (k ≡ 0 → X) → (k ≡ 3 → X) → (k ≡ 4 → X) → (k ≡ 7 → X) → X
 unfolding placed isSet pick
 by-set k h e f₀ f₃ f₄ f₇ =
     let t : T (eqb k 0 || eqb k 3 || eqb k 4 || eqb k 7) = subst (λ (j : Kind). T (placed k j)) e (kind-placed k h) in
@@ -62,6 +62,6 @@ by-set k h e f₀ f₃ f₄ f₇ =
     (λ u. f₄ (eqb→eq k 4 u)))
     (λ u. f₇ (eqb→eq k 7 u))
 
-pub by-root : (k : ℕ) → k < 42 → rowAt k .kind ≡ root → k ≡ 26
+pub by-root : (k : ℕ) → k < rowCount → rowAt k .kind ≡ root → k ≡ 26
 unfolding placed isSet isRoot pick
 by-root k h e = eqb→eq k 26 (subst (λ (j : Kind). T (placed k j)) e (kind-placed k h))

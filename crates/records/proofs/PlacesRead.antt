@@ -8,7 +8,7 @@ use Prim.Native.Nat.{ℕ, zero, suc}
 use lib.ListN.{getD}
 use Rattle.answer.specs.Answer.{got, pick, mapAnswer}
 use Rattle.codec.specs.Octets.{Octets}
-use Rattle.schema.specs.Table.{Kind, set, number32, number64, null, octets, root, rowAt}
+use Rattle.schema.specs.Table.{Kind, set, number32, number64, null, octets, root, rowAt, rowCount}
 use Rattle.schema.specs.Content.{ValueWith, Field, FieldWith, field, Content, Place, placeAt, Places, octetsIn, mapHash, mapValue, mapField, mapContent}
 use Rattle.schema.specs.Decode.{read, readPlaces}
 use Rattle.schema.proofs.Places.{octets-at-places}
@@ -51,7 +51,7 @@ module _ (s : List ℕ) where
 
   -- what a record says over s is what lies in s at its places
   pub content-there : (r : Record) → mapContent (octetsIn s) (placesOf r) ≡ contentOf r s
-  content-there r = rw (fields-there (r .software) 42, fields-there (r .hardware) 42) refl
+  content-there r = rw (fields-there (r .software) rowCount, fields-there (r .hardware) rowCount) refl
 
 -- a record of the places that were read says the content that was read
 pub places-read : (r : Record) (s : List ℕ) (k : ℕ) → Octets s → readPlaces s ≡ got (placesOf r, k) → read s ≡ got (contentOf r s, k)

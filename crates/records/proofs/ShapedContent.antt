@@ -11,7 +11,7 @@ use lib.ListN.{getD, take, drop}
 use Rattle.answer.specs.Answer.{pick}
 use Rattle.answer.proofs.Logic.{and-left, and-right, and-both}
 use Rattle.codec.specs.Element.{chainGood}
-use Rattle.schema.specs.Table.{Kind, set, number32, number64, null, octets, root, rowAt, knownVersion, heldIn, levelTop, hashed, top32}
+use Rattle.schema.specs.Table.{Kind, set, number32, number64, null, octets, root, rowAt, knownVersion, heldIn, levelTop, hashed, top32, rowCount}
 use Rattle.schema.specs.Content.{FieldWith, field, memberGood, afterMember, hashGood, valueGood, rowGood, fieldGood, afterField, listGood, wellShaped}
 use Rattle.schema.proofs.Table.{above}
 use Rattle.records.specs.declared.NumberSet.{NumberSet}
@@ -111,7 +111,7 @@ module _ {O : Type 0} (v : ℕ) (b : Bool) (f : FieldWith O) where
   after-more low (x ∷ xs) = after-more (x .number + 1) xs
 
 module _ {O : Type 0} (v : ℕ) (l : FieldList) (part : ℕ → ℕ → O) where
-  field-good : (k low : ℕ) → k < 42 → T (rowShaped v l k) → getD (l .present) k false ≡ true → low ≤ rowAt k .number → T (fieldGood v low (field (rowAt k .number) (valueAt l part (rowAt k .number) (rowAt k .kind) k)))
+  field-good : (k low : ℕ) → k < rowCount → T (rowShaped v l k) → getD (l .present) k false ≡ true → low ≤ rowAt k .number → T (fieldGood v low (field (rowAt k .number) (valueAt l part (rowAt k .number) (rowAt k .kind) k)))
   unfolding fieldGood rowGood rowShaped pick
   field-good k low h t e g =
       let u : T (heldIn v (rowAt k) && valueShaped v (rowAt k .kind) (getD (l .values) k 0) (setAt l (rowAt k .number)) (l .root)) = rw e at t in
@@ -122,14 +122,14 @@ module _ {O : Type 0} (v : ℕ) (l : FieldList) (part : ℕ → ℕ → O) where
   -- the first n rows: in order, and below every row that follows
   record Rows (n : ℕ) : Type 0 where
     good : T (chainGood (fieldGood v) afterField 0 (upTo (fieldAt l part) n))
-    low : (k : ℕ) → n ≤ k → k < 42 → leastAfter 0 (upTo (fieldAt l part) n) ≤ rowAt k .number
+    low : (k : ℕ) → n ≤ k → k < rowCount → leastAfter 0 (upTo (fieldAt l part) n) ≤ rowAt k .number
 
-  next-low : (b : Bool) (n low k : ℕ) → low ≤ rowAt n .number → n < k → k < 42 → pick b (rowAt n .number + 1) low ≤ rowAt k .number
+  next-low : (b : Bool) (n low k : ℕ) → low ≤ rowAt n .number → n < k → k < rowCount → pick b (rowAt n .number + 1) low ≤ rowAt k .number
   unfolding pick
   next-low true n low k i h g = omega (arith, above n k h g)
   next-low false n low k i h g = omega (arith, above n k h g)
 
-  rows-good : allBelow (rowShaped v l) 42 ≡ true → (n : ℕ) → n ≤ 42 → Rows n
+  rows-good : allBelow (rowShaped v l) rowCount ≡ true → (n : ℕ) → n ≤ rowCount → Rows n
   unfolding upTo fieldAt
   rows-good e zero h = record { good = tt; low = λ k i g. omega arith }
   rows-good e (suc n) h =
@@ -138,13 +138,13 @@ module _ {O : Type 0} (v : ℕ) (l : FieldList) (part : ℕ → ℕ → O) where
       let b = getD (l .present) n false in
       let xs = upTo (fieldAt l part) n in
       record {
-        good = more v b x 0 xs (p .good) (λ q. field-good n (leastAfter 0 xs) h (so _ (all-at (rowShaped v l) 42 n h e)) q (p .low n (omega arith) h));
+        good = more v b x 0 xs (p .good) (λ q. field-good n (leastAfter 0 xs) h (so _ (all-at (rowShaped v l) rowCount n h e)) q (p .low n (omega arith) h));
         low = λ k i g. rw (after-more v b x 0 xs) (next-low b n (leastAfter 0 xs) k (p .low n (omega arith) h) i g);
       }
 
   list-good : T (listShaped v l) → T (listGood v (fieldsOf l part))
   unfolding listShaped listGood
-  list-good t = rows-good (is-true (allBelow (rowShaped v l) 42) t) 42 (omega arith) .good
+  list-good t = rows-good (is-true (allBelow (rowShaped v l) rowCount) t) rowCount (omega arith) .good
 
 -- what a well-shaped record says is well-shaped
 pub shaped-content : {O : Type 0} (r : Record) (part : ℕ → ℕ → O) → T (wellShapedRecord r) → T (wellShaped (contentWith part r))

@@ -47,7 +47,7 @@ pub record RootClear (present : Bool) (t : RootOfTrust) : Type 0 where
   pub absent : present ≡ false → t ≡ emptyRoot
 
 -- the arrays of a list have their lengths
-pub record Sized (l : FieldList) : Type 0 where
+pub record RowsSized (l : FieldList) : Type 0 where
   pub present : length (l .present) ≡ rowCount
   pub values : length (l .values) ≡ rowCount
   pub sizes : length (l .sizes) ≡ rowCount

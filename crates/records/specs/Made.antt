@@ -47,8 +47,8 @@ orZero f (some x) = f x
 -- ---- what has its own place: the sets, and 704
 
 -- "A set holds at most 16 numbers .., kept with their count": the slots past them are 0
-abbrev pub setOf : List ℕ → NumberSet
-setOf l = record { members = take 16 (l ++ replicate 16 0); count = length l }
+abbrev pub setMade : List ℕ → NumberSet
+setMade l = record { members = take 16 (l ++ replicate 16 0); count = length l }
 
 unfoldable pub membersIn : Option (ValueWith Place) → List ℕ
 membersIn none = []
@@ -84,10 +84,10 @@ listMade fs = record {
   present = map (λ (r : Row). isThere (fieldValue fs (r .number))) rows;
   values = map (λ (r : Row). orZero valueWord (fieldValue fs (r .number))) rows;
   sizes = map (λ (r : Row). orZero sizeWord (fieldValue fs (r .number))) rows;
-  purpose = setOf (membersIn (fieldValue fs 1));
-  digest = setOf (membersIn (fieldValue fs 5));
-  padding = setOf (membersIn (fieldValue fs 6));
-  mgf = setOf (membersIn (fieldValue fs 203));
+  purpose = setMade (membersIn (fieldValue fs 1));
+  digest = setMade (membersIn (fieldValue fs 5));
+  padding = setMade (membersIn (fieldValue fs 6));
+  mgf = setMade (membersIn (fieldValue fs 203));
   root = rootIn (fieldValue fs 704);
 }
 

@@ -29,6 +29,7 @@ use Rattle.writer.specs.declared.Written.{Written}
 use Rattle.writer.specs.Written.{encodingOf, writable, ofWritten, written, leftBy, Writes}
 use Rattle.one_record.proofs.OneRecord.{read-encodable, wrote-encodable, read-of-write}
 use Rattle.round_trip.specs.Again.{writtenAgain, ReadAgain}
+use Rattle.codec.specs.Limits.{extensionBytes}
 
 -- ---- write(read(s)) is s
 
@@ -61,7 +62,7 @@ module _ (s out : List ℕ) (o : Outcome) (r : Record) (g : Reads s o r) (f : (k
     again =
         let h = read-encodable s r n (octets-all s f) reads .0 in
         guard-yes (writable r s) 20 0 _ (and-both (wellShapedRecord r) _ (h .shaped) (h .inside))
-        ∙ guard-yes (leb (length (encodingOf r s)) 8192) 22 0 _ (le→leb (length (encodingOf r s)) 8192 (h .short))
+        ∙ guard-yes (leb (length (encodingOf r s)) extensionBytes) 22 0 _ (le→leb (length (encodingOf r s)) extensionBytes (h .short))
         ∙ rw (same, places-read r s n (octets-all s f) (sym (reads .is))) refl
 
     pub wrote-again : (v : Written) → ofWritten v ≡ written r s out → ofWritten v ≡ writtenAgain s out

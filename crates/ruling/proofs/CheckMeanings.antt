@@ -11,8 +11,8 @@ use lib.Dec.{T, eqb, leb, ltb}
 use Rattle.answer.specs.Answer.{pick}
 use Rattle.answer.proofs.Logic.{by-le}
 use Rattle.checks.specs.Checks.{knownPurpose, purposeRefused, algorithmFits, paddingFits, paddingRefused, looksAtDigest, digestFits, digestRefused, digestBytes, keyBytes, keySizeRefused, signs, clockRefused, activeRefused, expiryRefused, authMissing, tokenRefused, recent, freshRefused, nullRefused, usesRefused}
-use Rattle.ruling.specs.Allowed.{Held, Each, InSets, Either, Signing, Deciphering, Recent}
-use Rattle.ruling.specs.Refuses.{Known, Fits}
+use Rattle.ruling.specs.Allowed.{Held, EachHeld, InSets, Either, Signing, Deciphering, Recent}
+use Rattle.ruling.specs.Refuses.{KnownPurpose, Fits}
 use Rattle.ruling.proofs.Means.{Means, equal, at-most, below, true-flag, both, one-of, only-with, negated, twice, says, held, each, in-sets}
 
 pub itself : (b : Bool) → Means b (T b)
@@ -20,7 +20,7 @@ itself b = record { to = λ t. t; from = λ t. t }
 
 -- ---- 30 to 32
 
-pub means-30 : (p : ℕ) → Means (not (not (knownPurpose p))) (Known p)
+pub means-30 : (p : ℕ) → Means (not (not (knownPurpose p))) (KnownPurpose p)
 unfolding knownPurpose
 means-30 p = twice (one-of (equal p 1) (one-of (equal p 2) (one-of (equal p 6) (equal p 7))))
 
@@ -45,7 +45,7 @@ module _ (p a m : ℕ) where
   unfolding digestRefused looksAtDigest
   means-34 d s h = only-with (one-of (equal p 2) (both (equal p 1) (equal m 2))) (both (itself (digestFits a m d)) (in-sets d s h))
 
-  pub means-35 : (d : ℕ) (s h : Option ℕ) → Means (not (keySizeRefused p a m d s h)) ((p ≡ 2) × ((a ≡ 1) × (m ≡ 3)) → Held s h × Each s h (λ bits. 2 * digestBytes d + 2 ≤ keyBytes bits))
+  pub means-35 : (d : ℕ) (s h : Option ℕ) → Means (not (keySizeRefused p a m d s h)) ((p ≡ 2) × ((a ≡ 1) × (m ≡ 3)) → Held s h × EachHeld s h (λ bits. 2 * digestBytes d + 2 ≤ keyBytes bits))
   unfolding keySizeRefused
   means-35 d s h =
       only-with (both (equal p 2) (both (equal a 1) (equal m 3)))
@@ -59,11 +59,11 @@ means-36 clock floor sa ha se he =
     says (negated (both (below clock floor) (one-of (held sa ha) (held se he)))) (λ n x. by-le floor clock (λ l. l) (λ l. absurd (n (l, x))))
     (λ n x. let l : floor ≤ clock = n (x .1) in let g : clock < floor = x .0 in absurd (omega arith))
 
-pub means-37 : (clock : ℕ) (s h : Option ℕ) → Means (not (activeRefused clock s h)) (Each s h (λ date. date ≤ clock))
+pub means-37 : (clock : ℕ) (s h : Option ℕ) → Means (not (activeRefused clock s h)) (EachHeld s h (λ date. date ≤ clock))
 unfolding activeRefused
 means-37 clock s h = twice (each (λ date. leb date clock) (λ date. date ≤ clock) (λ date. at-most date clock) s h)
 
-pub means-38 : (clock : ℕ) (s h : Option ℕ) → Means (not (expiryRefused clock s h)) (Each s h (λ date. clock ≤ date))
+pub means-38 : (clock : ℕ) (s h : Option ℕ) → Means (not (expiryRefused clock s h)) (EachHeld s h (λ date. clock ≤ date))
 unfolding expiryRefused
 means-38 clock s h = twice (each (λ date. leb clock date) (λ date. clock ≤ date) (λ date. at-most clock date) s h)
 
@@ -83,7 +83,7 @@ pub means-39 : (ns nh : Bool) (s h : Option ℕ) → Means (not (authMissing ns 
 unfolding authMissing
 means-39 ns nh s h = twice (one-of (one-of (true-flag ns) (true-flag nh)) (held s h))
 
-pub means-40 : (token : Bool) (kinds : ℕ) (s h : Option ℕ) → Means (not (tokenRefused token kinds s h)) (Each s h (λ wanted. (token ≡ true) × (bitAnd kinds wanted ≡ 0 → ⊥)))
+pub means-40 : (token : Bool) (kinds : ℕ) (s h : Option ℕ) → Means (not (tokenRefused token kinds s h)) (EachHeld s h (λ wanted. (token ≡ true) × (bitAnd kinds wanted ≡ 0 → ⊥)))
 unfolding tokenRefused
 means-40 token kinds s h =
     twice (each (λ wanted. token && not (eqb (bitAnd kinds wanted) 0)) (λ wanted. (token ≡ true) × (bitAnd kinds wanted ≡ 0 → ⊥)) (λ wanted. both (true-flag token) (negated (equal (bitAnd kinds wanted) 0))) s h)
@@ -101,7 +101,7 @@ unfolding recent
 is-recent uptime time seconds = both (at-most time uptime) (at-most (uptime - time) (1000 * seconds))
 
 pub means-41 : (uptime time handle challenge : ℕ) (sa ha st ht : Option ℕ)
-    → Means (not (freshRefused uptime time handle challenge sa ha st ht)) (Held sa ha → (Held st ht → Each st ht (Recent uptime time)) × ((Held st ht → ⊥) → challenge ≡ handle))
+    → Means (not (freshRefused uptime time handle challenge sa ha st ht)) (Held sa ha → (Held st ht → EachHeld st ht (Recent uptime time)) × ((Held st ht → ⊥) → challenge ≡ handle))
 unfolding freshRefused
 means-41 uptime time handle challenge sa ha st ht =
     only-with (held sa ha) (picked (held st ht) (each (recent uptime time) (Recent uptime time) (is-recent uptime time) st ht) (equal challenge handle))
@@ -120,6 +120,6 @@ means-forbids s h b =
 pub means-wants : (s h b : Bool) → Means (not (nullRefused s h (not b))) (Either s h → b ≡ true)
 means-wants s h b = only-with (one-of (true-flag s) (true-flag h)) (true-flag b)
 
-pub means-46 : (uses : ℕ) (s h : Option ℕ) → Means (not (usesRefused uses s h)) (Each s h (λ limit. uses < limit))
+pub means-46 : (uses : ℕ) (s h : Option ℕ) → Means (not (usesRefused uses s h)) (EachHeld s h (λ limit. uses < limit))
 unfolding usesRefused
 means-46 uses s h = twice (each (λ limit. ltb uses limit) (λ limit. uses < limit) (λ limit. below uses limit) s h)

@@ -14,7 +14,7 @@ use Rattle.checks.specs.Tags.{either, setAllows, bothAllow}
 use Rattle.ruling.specs.Rules.{Rules}
 use Rattle.checks.specs.Checks.{knownPurpose, purposeRefused, agreed, algorithmFits, paddingFits, paddingRefused, looksAtDigest, digestFits, digestRefused, digestBytes, keyBytes, keySizeRefused, expiry, clockRefused, activeRefused, expiryRefused, authMissing, tokenRefused, recent, freshRefused, nullRefused, usesRefused}
 use Rattle.ruling.specs.Allowed.{Held, InSets, Either, Signing, Deciphering}
-use Rattle.ruling.specs.Refuses.{InOne, Known, Algorithm, Fits, PaddingUnfit, DigestUnfit}
+use Rattle.ruling.specs.Refuses.{InOne, KnownPurpose, Algorithm, Fits, PaddingUnfit, DigestUnfit}
 use Rattle.ruling.specs.declared.request.Request.{Request}
 use Rattle.ruling.proofs.Means.{Means, equal, below, above, at-least, true-flag, false-flag, both, not-both, one-of, negated, twice, refusing, says, held, in-one, in-sets}
 use Rattle.ruling.proofs.CheckMeanings.{itself, means-30, means-31, means-32, means-33, means-34, signing, deciphering, means-39}
@@ -22,7 +22,7 @@ use Rattle.ruling.proofs.Shaping.{agreed-says, agreed-is, shape-of, sha
 
 -- ---- 30 to 32
 
-pub finds-30 : (p : ℕ) → Means (not (knownPurpose p)) (Known p → ⊥)
+pub finds-30 : (p : ℕ) → Means (not (knownPurpose p)) (KnownPurpose p → ⊥)
 finds-30 p = refusing (not (knownPurpose p)) (means-30 p)
 
 pub finds-31 : (p : ℕ) (s h : Option (List ℕ)) → Means (purposeRefused p s h) (InSets p s h → ⊥)
@@ -135,7 +135,7 @@ unfolding pick
 by-side test P f p (inl g) so ho su hu = rw (signing p g) (says (f so ho) (λ x. inl (g, x)) (⊎-elim (λ x. x .1) (λ x. absurd (apart p g (x .0)))))
 by-side test P f p (inr g) so ho su hu = rw (deciphering p g) (says (f su hu) (λ x. inr (g, x)) (⊎-elim (λ x. absurd (apart p (x .0) g)) (λ x. x .1)))
 
-module _ (p clock : ℕ) (k : Known p) where
+module _ (p clock : ℕ) (k : KnownPurpose p) where
   pub finds-36 : (floor : ℕ) (sa ha so ho su hu : Option ℕ)
       → Means (clockRefused clock floor sa ha (expiry p so su) (expiry p ho hu)) ((clock < floor) × (Held sa ha ⊎ ((Signing p × Held so ho) ⊎ (Deciphering p × Held su hu))))
   unfolding clockRefused

@@ -11,7 +11,7 @@ use native.Mathlib.Omega.{arith}
 use lib.Dec.{T, eqb, leb, ltb, eqb→eq, eqb-refl, leb→le, le→leb, T-not, not-T}
 use Rattle.answer.proofs.Logic.{by-le}
 use Rattle.checks.specs.Tags.{there, allows, either, bothAllow, member, setAllows}
-use Rattle.ruling.specs.Allowed.{Held, Each, Among, InSets}
+use Rattle.ruling.specs.Allowed.{Held, EachHeld, Among, InSets}
 use Rattle.ruling.specs.Refuses.{InOne}
 
 pub record Means (b : Bool) (P : Type 0) : Type 0 where
@@ -109,7 +109,7 @@ module _ {A : Type 0} where
     one-list none = record { to = λ t a e. let z : _≡_ {A = ℕ} 0 1 = cc e in absurd (omega arith); from = λ p. tt }
     one-list (some b) = record { to = λ t a e. let z : b ≡ a = cc in rw (← z) (m b .to t); from = λ p. m b .from (p b refl) }
 
-    pub each : (s h : Option A) → Means (bothAllow f s h) (Each s h P)
+    pub each : (s h : Option A) → Means (bothAllow f s h) (EachHeld s h P)
     each s h = both (one-list s) (one-list h)
 
   module _ (f : A → Bool) (P : A → Type 0) (m : (a : A) → Means (not (f a)) (P a)) where

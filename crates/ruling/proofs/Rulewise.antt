@@ -10,7 +10,7 @@ use Rattle.answer.specs.Answer.{pick}
 use Rattle.ruling.specs.Rules.{Rules}
 use Rattle.checks.specs.Checks.{agreed, expiry, clockRefused, expiryRefused}
 use Rattle.ruling.specs.Ruling.{shapeChecks, dateChecks, tokenChecks, deviceChecks, checks}
-use Rattle.ruling.specs.Allowed.{Held, Each, Allowed, Signing, Deciphering}
+use Rattle.ruling.specs.Allowed.{Held, EachHeld, Allowed, Signing, Deciphering}
 use Rattle.ruling.specs.Refuses.{Fits}
 use Rattle.ruling.specs.declared.request.Request.{Request}
 use Rattle.ruling.proofs.First.{Clear}
@@ -39,15 +39,15 @@ module _ (p clock floor : ℕ) (sa ha so ho su hu : Option ℕ) where
   clock-clear (inl g) u v w = rw (signing p g) (means-36 clock floor sa ha so ho .from (⊎-elim u (v g)))
   clock-clear (inr g) u v w = rw (deciphering p g) (means-36 clock floor sa ha su hu .from (⊎-elim u (w g)))
 
-  expiry-signing : ExpiryClear → Signing p → Each so ho (λ date. clock ≤ date)
+  expiry-signing : ExpiryClear → Signing p → EachHeld so ho (λ date. clock ≤ date)
   unfolding pick
   expiry-signing k g = means-38 clock so ho .to (rw (signing p g) at k)
 
-  expiry-deciphering : ExpiryClear → Deciphering p → Each su hu (λ date. clock ≤ date)
+  expiry-deciphering : ExpiryClear → Deciphering p → EachHeld su hu (λ date. clock ≤ date)
   unfolding pick
   expiry-deciphering k g = means-38 clock su hu .to (rw (deciphering p g) at k)
 
-  expiry-clear : Signing p ⊎ Deciphering p → (Signing p → Each so ho (λ date. clock ≤ date)) → (Deciphering p → Each su hu (λ date. clock ≤ date)) → ExpiryClear
+  expiry-clear : Signing p ⊎ Deciphering p → (Signing p → EachHeld so ho (λ date. clock ≤ date)) → (Deciphering p → EachHeld su hu (λ date. clock ≤ date)) → ExpiryClear
   unfolding pick
   expiry-clear (inl g) v w = rw (signing p g) (means-38 clock so ho .from (v g))
   expiry-clear (inr g) v w = rw (deciphering p g) (means-38 clock su hu .from (w g))

@@ -10,8 +10,8 @@ use lib.Dec.{T, eqb, leb}
 use borrow.Author.Tests.{eq-eqb}
 use Rattle.answer.specs.Answer.{pick}
 use Rattle.checks.specs.Checks.{agreed, paddingFits, digestFits}
-use Rattle.ruling.specs.Allowed.{Held, Each, Shape, rsaSign, rsaDecrypt, ecSign, agreeKey, attestKey, Signing, Deciphering}
-use Rattle.ruling.specs.Refuses.{Known, Fits}
+use Rattle.ruling.specs.Allowed.{Held, EachHeld, Shape, rsaSign, rsaDecrypt, ecSign, agreeKey, attestKey, Signing, Deciphering}
+use Rattle.ruling.specs.Refuses.{KnownPurpose, Fits}
 use Rattle.ruling.proofs.Means.{Means, equal, at-most, both, one-of}
 
 -- ---- the algorithm
@@ -23,18 +23,18 @@ none-some : {a : ℕ} → none ≡ some a → ⊥
 none-some e = let z : _≡_ {A = ℕ} 0 1 = cc in omega arith
 
 -- it is what each list that has one says, where it is not 0
-pub agreed-says : (s h : Option ℕ) → (agreed s h ≡ 0 → ⊥) → Held s h × Each s h (λ a. a ≡ agreed s h)
+pub agreed-says : (s h : Option ℕ) → (agreed s h ≡ 0 → ⊥) → Held s h × EachHeld s h (λ a. a ≡ agreed s h)
 unfolding agreed pick
 agreed-says none none n = absurd (n refl)
 agreed-says none (some b) n = (inr (b, refl), ((λ a e. absurd (none-some e)), (λ a e. sym (some-inj e))))
 agreed-says (some a) none n = (inl (a, refl), ((λ b e. sym (some-inj e)), (λ b e. absurd (none-some e))))
 agreed-says (some a) (some b) n = go (eqb a b) refl n
   where
-    go : (x : Bool) → eqb a b ≡ x → (pick x a 0 ≡ 0 → ⊥) → Held (some a) (some b) × Each (some a) (some b) (λ c. c ≡ pick x a 0)
+    go : (x : Bool) → eqb a b ≡ x → (pick x a 0 ≡ 0 → ⊥) → Held (some a) (some b) × EachHeld (some a) (some b) (λ c. c ≡ pick x a 0)
     go true e n = (inl (a, refl), ((λ c f. sym (some-inj f)), (λ c f. sym (some-inj f) ∙ sym (equal a b .to (rw e tt)))))
     go false e n = absurd (n refl)
 
-pub agreed-is : (s h : Option ℕ) (c : ℕ) → Held s h → Each s h (λ a. a ≡ c) → agreed s h ≡ c
+pub agreed-is : (s h : Option ℕ) (c : ℕ) → Held s h → EachHeld s h (λ a. a ≡ c) → agreed s h ≡ c
 unfolding agreed pick
 agreed-is none none c (inl x) e = absurd (none-some (x .1))
 agreed-is none none c (inr x) e = absurd (none-some (x .1))
@@ -83,7 +83,7 @@ module _ (p a m d : ℕ) (u : (p ≡ 1) ⊎ (p ≡ 2) → T (paddingFits p a m))
 -- ---- from the shape to the checks
 
 module _ (p a m d : ℕ) where
-  pub shape-known : Shape p a m d → Known p
+  pub shape-known : Shape p a m d → KnownPurpose p
   shape-known (rsaSign f e x) = inr (inl f)
   shape-known (rsaDecrypt f e x) = inl f
   shape-known (ecSign f e x y) = inr (inl f)
@@ -122,7 +122,7 @@ module _ (p a m d : ℕ) where
   shape-digest (agreeKey f e) l = absurd (⊎-elim (λ x. omega arith) (λ x. omega arith) l)
   shape-digest (attestKey f e) l = absurd (⊎-elim (λ x. omega arith) (λ x. omega arith) l)
 
-pub known-side : (p : ℕ) → Known p → Signing p ⊎ Deciphering p
+pub known-side : (p : ℕ) → KnownPurpose p → Signing p ⊎ Deciphering p
 known-side p (inl e) = inr (inl e)
 known-side p (inr (inl e)) = inl (inl e)
 known-side p (inr (inr (inl e))) = inr (inr e)

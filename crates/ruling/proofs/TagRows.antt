@@ -8,7 +8,7 @@ use Prim.Native.Nat.{ℕ, _<_}
 use lib.Dec.{lit<}
 use lib.ListN.{getD}
 use Rattle.answer.specs.Answer.{pick}
-use Rattle.schema.specs.Table.{rows, rowAt}
+use Rattle.schema.specs.Table.{rows, rowAt, rowCount}
 use Rattle.schema.specs.Content.{ValueWith, num, nums, placeAt}
 use Rattle.records.specs.Content.{membersOf, valueAt, fieldsOf}
 use Rattle.records.specs.Equal.{presentAt}
@@ -76,7 +76,7 @@ module _ (l : FieldList) where
     set-row : (n k : ℕ) (g : NumberSet) → fieldValue (fieldsOf l part) n ≡ pick (presentAt l k) (some (nums (membersOf g))) none → setIn (fieldValue (fieldsOf l part) n) ≡ setAt k g
     set-row n k g e = ap (setIn {O = O}) e ∙ set-in O (presentAt l k) (membersOf g)
 
-    held-row : (n k : ℕ) → k < 42 → rowAt k .number ≡ n → there (fieldValue (fieldsOf l part) n) ≡ presentAt l k
+    held-row : (n k : ℕ) → k < rowCount → rowAt k .number ≡ n → there (fieldValue (fieldsOf l part) n) ≡ presentAt l k
     held-row n k h e = rw (← e) (ap there (row-value l part k h) ∙ there-in (presentAt l k) (valueAt l part (rowAt k .number) (rowAt k .kind) k))
 
     pub by-rows : rulesByRows ≡ rulesOf (fieldsOf l part)

@@ -17,15 +17,15 @@ abbrev pub Held : {A : Type 0} → Option A → Option A → Type 0
 Held {A} s h = ((a : A) × (s ≡ some a)) ⊎ ((a : A) × (h ≡ some a))
 
 -- "A tag in either list applies; in both, both must allow"
-abbrev pub Each : {A : Type 0} → Option A → Option A → (A → Type 0) → Type 0
-Each {A} s h Allows = ((a : A) → s ≡ some a → Allows a) × ((a : A) → h ≡ some a → Allows a)
+abbrev pub EachHeld : {A : Type 0} → Option A → Option A → (A → Type 0) → Type 0
+EachHeld {A} s h Allows = ((a : A) → s ≡ some a → Allows a) × ((a : A) → h ≡ some a → Allows a)
 
 abbrev pub Among : ℕ → List ℕ → Type 0
 Among n set = (i : ℕ) × (i < length set) × (getD set i 0 ≡ n)
 
 -- "A set tag must be in at least one list"
 abbrev pub InSets : ℕ → Option (List ℕ) → Option (List ℕ) → Type 0
-InSets n s h = Held s h × Each s h (Among n)
+InSets n s h = Held s h × EachHeld s h (Among n)
 
 -- a NULL tag of either list
 abbrev pub Either : Bool → Bool → Type 0
@@ -58,7 +58,7 @@ pub record Allowed (s h : Rules) (q : Request) : Type 0 where
   -- 32: the algorithm is present, and the lists do not disagree
   pub algorithm : ℕ
   pub present : Held (s .algorithm) (h .algorithm)
-  pub agreed : Each (s .algorithm) (h .algorithm) (λ a. a ≡ algorithm)
+  pub agreed : EachHeld (s .algorithm) (h .algorithm) (λ a. a ≡ algorithm)
   -- 30, 32, 33 and 34 by shape
   pub shape : Shape (q .purpose) algorithm (q .padding) (q .digest)
   -- 33 and 34 by the sets
@@ -66,26 +66,26 @@ pub record Allowed (s h : Rules) (q : Request) : Type 0 where
   pub digest : (q .purpose ≡ 2) ⊎ ((q .purpose ≡ 1) × (q .padding ≡ 2)) → InSets (q .digest) (s .digest) (h .digest)
   -- 35
   pub keySize : (q .purpose ≡ 2) × ((algorithm ≡ 1) × (q .padding ≡ 3))
-      → Held (s .keySize) (h .keySize) × Each (s .keySize) (h .keySize) (λ bits. 2 * digestBytes (q .digest) + 2 ≤ keyBytes bits)
+      → Held (s .keySize) (h .keySize) × EachHeld (s .keySize) (h .keySize) (λ bits. 2 * digestBytes (q .digest) + 2 ≤ keyBytes bits)
   -- 36
   pub floor : Held (s .active) (h .active) → q .floor ≤ q .clock
   pub originationFloor : Signing (q .purpose) → Held (s .origination) (h .origination) → q .floor ≤ q .clock
   pub usageFloor : Deciphering (q .purpose) → Held (s .usage) (h .usage) → q .floor ≤ q .clock
   -- 37
-  pub active : Each (s .active) (h .active) (λ date. date ≤ q .clock)
+  pub active : EachHeld (s .active) (h .active) (λ date. date ≤ q .clock)
   -- 38
-  pub origination : Signing (q .purpose) → Each (s .origination) (h .origination) (λ date. q .clock ≤ date)
-  pub usage : Deciphering (q .purpose) → Each (s .usage) (h .usage) (λ date. q .clock ≤ date)
+  pub origination : Signing (q .purpose) → EachHeld (s .origination) (h .origination) (λ date. q .clock ≤ date)
+  pub usage : Deciphering (q .purpose) → EachHeld (s .usage) (h .usage) (λ date. q .clock ≤ date)
   -- 39
   pub auth : Either (s .noAuth) (h .noAuth) ⊎ Held (s .authType) (h .authType)
   -- 40
-  pub token : Each (s .authType) (h .authType) (λ wanted. (q .token .there ≡ true) × (bitAnd (q .token .kinds) wanted ≡ 0 → ⊥))
+  pub token : EachHeld (s .authType) (h .authType) (λ wanted. (q .token .there ≡ true) × (bitAnd (q .token .kinds) wanted ≡ 0 → ⊥))
   -- 41
-  pub recent : Held (s .authType) (h .authType) → Each (s .authTimeout) (h .authTimeout) (Recent (q .uptime) (q .token .time))
+  pub recent : Held (s .authType) (h .authType) → EachHeld (s .authTimeout) (h .authTimeout) (Recent (q .uptime) (q .token .time))
   pub bound : Held (s .authType) (h .authType) → (Held (s .authTimeout) (h .authTimeout) → ⊥) → q .token .challenge ≡ q .handle
   -- 42 to 46
   pub unlocked : Either (s .unlocked) (h .unlocked) → q .locked ≡ false
   pub presence : Either (s .presence) (h .presence) → q .present ≡ true
   pub confirmation : Either (s .confirmation) (h .confirmation) → q .confirmed ≡ true
   pub earlyBoot : Either (s .earlyBoot) (h .earlyBoot) → q .«early_boot_over» ≡ false
-  pub useLimit : Each (s .useLimit) (h .useLimit) (λ limit. q .uses < limit)
+  pub useLimit : EachHeld (s .useLimit) (h .useLimit) (λ limit. q .uses < limit)

@@ -11,7 +11,7 @@ use lib.Bits.{bitAnd}
 use Rattle.answer.specs.Sentences.{SaysFirst}
 use Rattle.ruling.specs.Rules.{Rules}
 use Rattle.checks.specs.Checks.{digestBytes, keyBytes}
-use Rattle.ruling.specs.Allowed.{Held, Each, InSets, Either, Shape, Signing, Deciphering}
+use Rattle.ruling.specs.Allowed.{Held, EachHeld, InSets, Either, Shape, Signing, Deciphering}
 use Rattle.ruling.specs.declared.request.Request.{Request}
 
 -- one of the two lists holds the tag, with such a value
@@ -19,12 +19,12 @@ abbrev pub InOne : {A : Type 0} → Option A → Option A → (A → Type 0) →
 InOne {A} s h Such = ((a : A) × ((s ≡ some a) × Such a)) ⊎ ((a : A) × ((h ≡ some a) × Such a))
 
 -- "1 DECRYPT, 2 SIGN, 6 AGREE_KEY or 7 ATTEST_KEY"
-abbrev pub Known : ℕ → Type 0
-Known p = (p ≡ 1) ⊎ ((p ≡ 2) ⊎ ((p ≡ 6) ⊎ (p ≡ 7)))
+abbrev pub KnownPurpose : ℕ → Type 0
+KnownPurpose p = (p ≡ 1) ⊎ ((p ≡ 2) ⊎ ((p ≡ 6) ⊎ (p ≡ 7)))
 
 -- the algorithm: one list has it, and no list has another
 abbrev pub Algorithm : Rules → Rules → ℕ → Type 0
-Algorithm s h a = Held (s .algorithm) (h .algorithm) × Each (s .algorithm) (h .algorithm) (λ b. b ≡ a)
+Algorithm s h a = Held (s .algorithm) (h .algorithm) × EachHeld (s .algorithm) (h .algorithm) (λ b. b ≡ a)
 
 -- "RSA (1) for 1, 2, 7"; "EC (3) for 2, 6, 7"
 abbrev pub Fits : ℕ → ℕ → Type 0
@@ -46,7 +46,7 @@ DigestUnfit s h q =
 abbrev pub sentences : Rules → Rules → Request → List (ℕ × Type 0)
 sentences s h q =
     -- "purpose is not 1 DECRYPT, 2 SIGN, 6 AGREE_KEY or 7 ATTEST_KEY"
-    (30, (Known (q .purpose) → ⊥))
+    (30, (KnownPurpose (q .purpose) → ⊥))
     -- "it isn't allowed"
     ∷ (31, (InSets (q .purpose) (s .purpose) (h .purpose) → ⊥))
     -- "algorithm absent, the lists disagree, or it is neither RSA (1) for 1, 2, 7 nor EC (3) for 2, 6, 7": no algorithm

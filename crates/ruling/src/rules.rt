@@ -3,10 +3,12 @@ use checks::NumberTag;
 use checks::SetTag;
 use records::FieldList;
 use records::NumberSet;
+use schema::ROWS;
 ghost use mathlib.Core.Path.{_≡_};
 ghost use mathlib.Core.Bool.{false};
 ghost use Prim.Native.Nat.{_<_};
 ghost use lib.ListN.{getD};
+ghost use Rattle.schema.specs.Table.{rowCount};
 ghost use Rattle.records.specs.Content.{membersOf};
 ghost use Rattle.ruling.specs.Rules.{saidFields, rulesOf};
 ghost use Rattle.checks.specs.Code.{given, ofNumberTag, ofSetTag};
@@ -69,8 +71,8 @@ const ROW_CONFIRMATION: usize = 19; // 508
 
 const ROW_UNLOCKED: usize = 20; // 509
 
-fn number_at(present: [bool; 42], values: [u64; 42], row: usize) -> NumberTag
-    requires { ⌜ row < 42 ⌝ }
+fn number_at(present: [bool; ROWS], values: [u64; ROWS], row: usize) -> NumberTag
+    requires { ⌜ row < rowCount ⌝ }
     ensures { λ t. ⌜ ofNumberTag t ≡ given (getD present row false) (getD values row 0) ⌝ }
 {
     NumberTag {

@@ -18,6 +18,7 @@ use Rattle.schema.specs.Statements.{ReadEncode, ReadSound, EncodeInjecti
 use Rattle.schema.proofs.Codecs.{decode-back, decode-sound}
 use Rattle.schema.proofs.Shape.{good-shaped, good-octets, shaped-good}
 use Rattle.schema.proofs.Count.{good-read}
+use Rattle.codec.specs.Limits.{extensionBytes, extensionDepth, extensionElements}
 
 -- A well-shaped content of octets whose encoding is within the limit is read back from it, with its count of elements.
 pub read-encode : ReadEncode
@@ -31,13 +32,13 @@ read-sound bs c k o e =
     bind-case _ _ e₁ λ d ed e₂.
     let q : d ≡ c = ap (λ (x : Content × ℕ). x .0) (got-inj e₂) in
     let s = decode-sound bs c o (ed ∙ ap got q) in
-    let h : length bs ≤ 8192 = first-pass-sound 8192 8 512 bs t o et .short in
+    let h : length bs ≤ extensionBytes = first-pass-sound extensionBytes extensionDepth extensionElements bs t o et .short in
     let b = good-read c (s .0) (rw (s .1) h) in
     (good-shaped c (s .0), good-octets c (s .0), s .1, h, ap (λ (x : Content × ℕ). x .1) (got-inj (sym e ∙ rw (s .1) at b)))
 
 -- Bytes are accepted exactly when they are the encoding, within the limit, of a well-shaped content of octets.
 pub accepted-exactly : (bs : List ℕ) → Octets bs
-    → ((w : Content × ℕ) × (read bs ≡ got w)) ↔ ((c : Content) × T (wellShaped c) × ContentOctets c × (encode c ≡ bs) × (length bs ≤ 8192))
+    → ((w : Content × ℕ) × (read bs ≡ got w)) ↔ ((c : Content) × T (wellShaped c) × ContentOctets c × (encode c ≡ bs) × (length bs ≤ extensionBytes))
 accepted-exactly bs o = (
   λ x. let s = read-sound bs (x .0 .0) (x .0 .1) o (x .1) in (x .0 .0, s .0, s .1, s .2, s .3),
   λ y. ((y .0, countOf (y .0)), rw (← y .3) (read-encode (y .0) (y .1) (y .2) (rw (y .3) (y .4)))),

@@ -22,6 +22,7 @@ use Rattle.schema.specs.Content.{Root, Value, Field, Content, enumerated
 use Rattle.schema.specs.Decode.{readWith, read}
 use Rattle.schema.specs.Count.{hashCount, valueCount, fieldCount, listCount, countOf}
 use Rattle.schema.proofs.Codecs.{integer-small, boolean-small, octetsSmall, hashSmall, rootSmall, shaped, areOctets, valueSmall, fieldSmall, fieldsSmall, listSmall, small, good, decode-back, version-small, level-small, field-below, fields-parts}
+use Rattle.codec.specs.Limits.{extensionBytes, extensionDepth, extensionElements}
 
 -- ---- one element each
 
@@ -234,8 +235,8 @@ count-few c t =
 
 -- ---- the whole: a good content is read back, with its count
 
-pub good-read : (c : Content) → T (good c) → length (encode c) ≤ 8192 → read (encode c) ≡ got (c, countOf c)
+pub good-read : (c : Content) → T (good c) → length (encode c) ≤ extensionBytes → read (encode c) ≡ got (c, countOf c)
 unfolding readWith
 good-read c t h =
-    let a = top 8192 8 512 (encode-one 3 c t) (omega (arith, count-few c (and-left (wellShaped c) (small c) t))) h in
+    let a = top extensionBytes extensionDepth extensionElements (encode-one 3 c t) (omega (arith, count-few c (and-left (wellShaped c) (small c) t))) h in
     bind-got _ _ _ (a .2) ∙ bind-got _ _ _ (decode-back c t) ∙ ap (λ (k : ℕ). got (c, k)) (a .1)

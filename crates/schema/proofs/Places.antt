@@ -20,6 +20,7 @@ use Rattle.schema.specs.Content.{RootWith, ValueWith, num, nul, oct, num
 use Rattle.schema.specs.Decode.{readInteger, readEnumerated, readBoolean, readNull, readSet, readVersion, readOctets, readHash, RootParts, rootFrom, rootParts, readRoot, readValue, rowContent, fieldContent, readField, readList, Eight, eightFrom, readEight, decodeWith, readWith, asOctets, asPlace, read, readPlaces}
 use Rattle.schema.specs.Statements.{OctetsAtPlaces}
 use Rattle.schema.proofs.Codecs.{readInteger-laws, readEnumerated-laws, readOctets-laws, readBoolean-laws, readVersion-laws, readField-laws, readList-laws, level-small}
+use Rattle.codec.specs.Limits.{extensionBytes, extensionDepth, extensionElements}
 
 module _ (s : List ℕ) where
   looked : FollowsIn s (octetsIn s) (λ p q bs. got (asPlace q bs)) (λ p q bs. got (asOctets q bs))
@@ -123,4 +124,4 @@ module _ (s : List ℕ) where
 
 pub octets-at-places : OctetsAtPlaces
 unfolding readWith
-octets-at-places s o = rw (decode-follow s o) (counted-moved s (firstPass 8192 8 512 s) (decodeWith asPlace s))
+octets-at-places s o = rw (decode-follow s o) (counted-moved s (firstPass extensionBytes extensionDepth extensionElements s) (decodeWith asPlace s))

@@ -19,10 +19,11 @@ use Rattle.codec.specs.Tree.{Node, node, none, and, nodes, firstPass, octetsOf,
 use Rattle.codec.proofs.Tree.{first-pass-sound}
 use Rattle.codec.proofs.Ranges.{Run, InRange, Ranged, Shortens, RangedIn, held, element-alone, element-ranged, element-shortens, tagged-ranged, tagged-shortens, exactly-ranged, both-ranged, under-ranged, chain-ranged}
 use Rattle.codec.proofs.Refusals.{first-pass-refuses}
-use Rattle.schema.specs.Statements.{ReadRefuses, AfterFirstPass}
+use Rattle.schema.specs.Statements.{ReadingRefuses, AfterFirstPass}
 use Rattle.schema.specs.Table.{Kind, set, number32, number64, null, octets, root, Row, rows, heldIn, find, levelTop, hashed, top32, top64}
 use Rattle.schema.specs.Content.{num, nul, oct, nums, trust, FieldWith, afterMember, afterField}
 use Rattle.schema.specs.Decode.{readInteger, readEnumerated, booleanOf, readBoolean, nullOf, readNull, readMember, readSet, readVersion, readOctets, readHash, rootFrom, rootParts, readRoot, readValue, rowContent, fieldContent, readField, readList, Eight, readEight, eightFrom, decodeWith, readWith}
+use Rattle.codec.specs.Limits.{extensionBytes, extensionDepth, extensionElements}
 
 -- the schema's own refusals
 abbrev Own : ℕ → Type 0
@@ -188,7 +189,7 @@ module _ {O : Type 0} (keep : ℕ → List ℕ → O) where
   outer-ranged = tagged-ranged 8 14 wrongElement (identifier 1 16) _ is-9 (exactly-ranged 8 14 true tt wrongElement (readEight keep) is-9 eight-ranged)
 
   -- over bytes that the first pass took as the tree t
-  module _ (bs : List ℕ) (t : Node) (w : Within 8192 8 512 bs t) where
+  module _ (bs : List ℕ) (t : Node) (w : Within extensionBytes extensionDepth extensionElements bs t) where
     run : Run bs
     unfolding Each runOctets
     run = record { depth = 8; start = 0; elements = and t none; der = (w .der, tt); whole = append-nil (octetsOf t) ∙ w .whole }
@@ -209,10 +210,10 @@ pub after-first-pass : AfterFirstPass
 unfolding readWith
 after-first-pass O keep bs t o e k q r =
     bind-refuses _ _ r (λ d. absurd (refused-got (sym d ∙ e)))
-    (λ u d v. bind-refuses _ _ v (λ f. decode-refuses keep bs t (first-pass-sound 8192 8 512 bs t o e) k q f) (λ c f g. absurd (not-got g)))
+    (λ u d v. bind-refuses _ _ v (λ f. decode-refuses keep bs t (first-pass-sound extensionBytes extensionDepth extensionElements bs t o e) k q f) (λ c f g. absurd (not-got g)))
 
-pub read-refuses : ReadRefuses
+pub reading-refuses : ReadingRefuses
 unfolding readWith
-read-refuses O keep bs o k q r =
-    bind-refuses _ _ r (λ d. let n = first-pass-refuses 8192 8 512 bs k q d in (omega arith, omega arith))
+reading-refuses O keep bs o k q r =
+    bind-refuses _ _ r (λ d. let n = first-pass-refuses extensionBytes extensionDepth extensionElements bs k q d in (omega arith, omega arith))
     (λ t d v. let n = after-first-pass O keep bs t o d k q r in (omega arith, omega arith))

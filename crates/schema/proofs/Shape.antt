@@ -15,6 +15,7 @@ use Rattle.codec.proofs.Element.{element-length}
 use Rattle.schema.specs.Content.{Root, Value, num, nul, oct, nums, trust, Field, Content, enumeratedElement, octetsElement, booleanElement, hashElement, rootContent, valueElement, fieldElement, listElement, keyDescription, encode, wellShaped}
 use Rattle.schema.specs.Parts.{HashIs, ValueIs, FieldsAre, ContentOctets}
 use Rattle.schema.proofs.Codecs.{areOctets, are-octets, octetsSmall, hashSmall, rootSmall, valueSmall, fieldSmall, fieldsSmall, listSmall, small, good}
+use Rattle.codec.specs.Limits.{extensionBytes}
 
 -- ---- from what is good
 
@@ -129,6 +130,6 @@ small-to c o h =
     (and-both (listSmall (c .hardware)) _ (list-to (c .hardware) (o .3) (right-of (listElement (c .software)) (listElement (c .hardware)) h₆))
     (good-length (keyDescription c) h))))
 
-pub shaped-good : (c : Content) → T (wellShaped c) → ContentOctets c → length (encode c) ≤ 8192 → T (good c)
+pub shaped-good : (c : Content) → T (wellShaped c) → ContentOctets c → length (encode c) ≤ extensionBytes → T (good c)
 unfolding encode
 shaped-good c t o h = and-both (wellShaped c) (small c) t (small-to c o (inside (identifier 1 16) (keyDescription c) (omega arith)))

@@ -13,7 +13,7 @@ use borrow.Author.Tests.{le-leb, lt-leb, eq-eqb, ne-eqb, eqb-true, eqb-false}
 use Rattle.answer.specs.Answer.{pick}
 use Rattle.answer.proofs.Logic.{by-le, and-left, and-right}
 use Rattle.schema.specs.Statements.{Above}
-use Rattle.schema.specs.Table.{Row, row, null, rows, rowAt, indexOf, find, heldIn}
+use Rattle.schema.specs.Table.{Row, row, null, rows, rowAt, indexOf, find, heldIn, rowCount}
 
 -- ---- a match's last arm
 
@@ -46,7 +46,7 @@ unfolding indexOf pick
 no-place [] n f = refl
 no-place (r ∷ rs) n f = rw (ne-eqb (r .number) n (λ e. f 0 (omega arith) e)) (ap suc (no-place rs n (λ i h e. f (suc i) (omega arith) e)))
 
-pub no-row : (n : ℕ) → Rest (Unit {0}) n (numbersOf rows) → 42 ≡ indexOf rows n
+pub no-row : (n : ℕ) → Rest (Unit {0}) n (numbersOf rows) → rowCount ≡ indexOf rows n
 unfolding rows
 no-row n r = sym (no-place rows n (rest-at (Unit {0}) n (numbersOf rows) r .1))
 
@@ -96,9 +96,9 @@ beyond n k r =
     by-le n k (λ h. h)
     (λ h. absurd (rest-at (Unit {0}) k (counted n 0) r .1 k (omega (arith, length-counted n 0)) (getD-counted n 0 k h ∙ omega arith)))
 
-pub past-table : (k : ℕ) → Rest (Unit {0}) k (counted 42 0) → row 0 null 1 0 ≡ rowAt k
+pub past-table : (k : ℕ) → Rest (Unit {0}) k (counted rowCount 0) → row 0 null 1 0 ≡ rowAt k
 unfolding rows
-past-table k r = sym (past rows k (row 0 null 1 0) (beyond 42 k r))
+past-table k r = sym (past rows k (row 0 null 1 0) (beyond rowCount k r))
 
 -- ---- versions
 
@@ -127,7 +127,7 @@ next-above (r ∷ []) i d t h = absurd (omega arith)
 next-above (r ∷ q ∷ rs) zero d t h = ltb→lt (r .number) (q .number) (and-left (ltb (r .number) (q .number)) _ t)
 next-above (r ∷ q ∷ rs) (suc i) d t h = next-above (q ∷ rs) i d (and-right (ltb (r .number) (q .number)) _ t) (omega arith)
 
-some-above : (i j : ℕ) → i + suc j < 42 → rowAt i .number < rowAt (i + suc j) .number
+some-above : (i j : ℕ) → i + suc j < rowCount → rowAt i .number < rowAt (i + suc j) .number
 unfolding rows
 some-above i zero h = let e : i + 1 ≡ suc i = omega arith in rw e (next-above rows i (row 0 null 1 0) rows-ascend (omega arith))
 some-above i (suc j) h =

@@ -41,8 +41,8 @@ PlacesShaped = (s : List ℕ) (c : Places) (n : ℕ) → Octets s → readPlaces
 -- ---- refusals: whatever becomes of octets
 
 -- a refused read has a number from 1 to 14
-abbrev pub ReadRefuses : Type 1
-ReadRefuses = (O : Type 0) (keep : ℕ → List ℕ → O) (bs : List ℕ) → Octets bs → (k p : ℕ) → readWith keep bs ≡ refused k p → (1 ≤ k) × (k ≤ 14)
+abbrev pub ReadingRefuses : Type 1
+ReadingRefuses = (O : Type 0) (keep : ℕ → List ℕ → O) (bs : List ℕ) → Octets bs → (k p : ℕ) → readWith keep bs ≡ refused k p → (1 ≤ k) × (k ≤ 14)
 
 -- where the first pass accepts, from 8 to 14: no header is at fault, and no chain of fields or members runs out of turns
 abbrev pub AfterFirstPass : Type 1

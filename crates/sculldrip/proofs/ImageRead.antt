@@ -21,16 +21,16 @@ use Rattle.reader.specs.declared.Outcome.{Outcome}
 use Rattle.reader.specs.Reading.{Reads}
 use Rattle.extension_text.proofs.Said.{saidIn, said-is}
 use Rattle.image.specs.Image.{imageOf, recordOf, wordsFit, imagePut}
-use Rattle.image.specs.Whole.{Whole}
+use Rattle.image.specs.Whole.{WholeRecord}
 use Rattle.image.proofs.Puts.{image-length}
 use Rattle.image.proofs.RoundTrip.{record-back, image-fits}
 use Rattle.sculldrip.specs.Packed.{packed}
-use Rattle.sculldrip.specs.Calls.{counted, isAccepted, elementsOf, readInto, readAnswer, ImageOfRead, LeavesRead, ReadLeaves}
+use Rattle.sculldrip.specs.Calls.{told, isAccepted, elementsOf, readInto, readAnswer, ImageOfRead, LeavesRead, ReadLeaves}
 use Rattle.sculldrip.specs.Statements.{ReadImage, ReadBack}
 use Rattle.sculldrip.proofs.Calls.{too-few, enough, numbered}
 
 -- both clauses, from the answer that they speak of
-told : (s old new : List ℕ) {x : Answer (Content × ℕ)} → x ≡ readInto s old → {n : ℕ} → n ≡ packed (counted (λ c. c .1) x) → LeavesRead x s old new
+told : (s old new : List ℕ) {x : Answer (Content × ℕ)} → x ≡ readInto s old → {n : ℕ} → n ≡ packed (told (λ c. c .1) x) → LeavesRead x s old new
     → (n ≡ readAnswer s old) × ReadLeaves s old new
 told s old new e {n} p q = (numbered e (λ c. c .1) p, subst (λ (y : Answer (Content × ℕ)). LeavesRead y s old new) e q)
 
@@ -52,7 +52,7 @@ module _ (s old : List ℕ) where
     read-refused (Outcome.Accepted k) is e t p = absurd (true≢false (sym e ∙ t))
     read-refused (Outcome.Refused k q) is e t p = told s old old (found (Outcome.Refused k q) is) p refl
 
-    pub read-filled : (o : Outcome) → Reads s o r → {b : Bool} → b ≡ isAccepted o → b ≡ true → {n : ℕ} {new : List ℕ} → n ≡ packed (elementsOf o) → (new ≡ imagePut old r) × (410 ≤ length old → Whole r)
+    pub read-filled : (o : Outcome) → Reads s o r → {b : Bool} → b ≡ isAccepted o → b ≡ true → {n : ℕ} {new : List ℕ} → n ≡ packed (elementsOf o) → (new ≡ imagePut old r) × (410 ≤ length old → WholeRecord r)
         → (n ≡ readAnswer s old) × ReadLeaves s old new
     read-filled (Outcome.Accepted k) is e t {n} {new} p (q, w) = told s old new (found (Outcome.Accepted k) is) p (record { said = r; reads = is; whole = w h; image = put q })
     read-filled (Outcome.Refused k q) is e t p z = absurd (true≢false (sym t ∙ e))

@@ -24,15 +24,15 @@ use Rattle.schema.specs.Content.{Content, ValueWith, num, nul, oct, nums, trust
 use Rattle.records.specs.Content.{fieldsOf}
 use Rattle.records.specs.Fields.{fieldValue}
 use Rattle.schema.specs.Decode.{asOctets, read}
-use Rattle.schema.proofs.Refusals.{read-refuses}
+use Rattle.schema.proofs.Refusals.{reading-refuses}
 use borrow.Author.Tests.{le-leb, le-ltb}
 use Rattle.listing.specs.Room.{listed}
 use Rattle.listing.specs.Text.{listing}
 use Rattle.extension_text.specs.Bytes.{room, extensionListed}
 use Rattle.image.specs.Image.{recordIn}
 use Rattle.sculldrip.specs.Packed.{restTop, rest, word, packed}
-use Rattle.sculldrip.specs.Calls.{counted, readInto, writeImage, askImage, asked, requestOf, ruleImage, enrolImage}
-use Rattle.sculldrip.specs.Statements.{Tells, oneOf, RestWhole, readNumber, ReadAnswers, WriteAnswers, OctetsAnswers, ruleNumber, RuleAnswers, enrolNumber, EnrolAnswers, ListAnswers}
+use Rattle.sculldrip.specs.Calls.{told, readInto, writeImage, askImage, asked, requestOf, ruleImage, enrolImage}
+use Rattle.sculldrip.specs.Statements.{Tells, oneOf, RestWhole, readRefusal, ReadAnswers, WriteAnswers, OctetsAnswers, ruleRefusal, RuleAnswers, enrolRefusal, EnrolAnswers, ListAnswers}
 
 -- a refusal's number is one of these, all of them bytes and none of them 0
 abbrev Within : {A : Type 0} → (ℕ → Bool) → Answer A → Type 0
@@ -55,7 +55,7 @@ module _ (may : ℕ → Bool) where
   by-answer (got n) h = (omega arith, omega arith)
   by-answer (refused number place) h = let g = h .1 in (h .0, g .0, omega arith, omega arith)
 
-  by-count : {A : Type 0} (count : A → ℕ) (a : Answer A) → Within may a → Tells may (counted count a) (packed (counted count a))
+  by-count : {A : Type 0} (count : A → ℕ) (a : Answer A) → Within may a → Tells may (told count a) (packed (told count a))
   by-count count (got x) h = by-answer (got (count x)) tt
   by-count count (refused number place) h = by-answer (refused number place) h
 
@@ -68,17 +68,17 @@ module _ (may : ℕ → Bool) where
 
 -- ---- a read: from 1 to 14, as the schema's law has it
 
-of-read : (s : List ℕ) → Octets s → Within readNumber (read s)
+of-read : (s : List ℕ) → Octets s → Within readRefusal (read s)
 of-read s o = go (read s) refl
   where
-    go : (a : Answer (Content × ℕ)) → read s ≡ a → Within readNumber a
+    go : (a : Answer (Content × ℕ)) → read s ≡ a → Within readRefusal a
     go (got c) e = tt
-    go (refused k q) e = let n = read-refuses (List ℕ) asOctets s o k q e in (rw (le-leb k 14 (omega (arith, n))) tt, (n .0, omega (arith, n)))
+    go (refused k q) e = let n = reading-refuses (List ℕ) asOctets s o k q e in (rw (le-leb k 14 (omega (arith, n))) tt, (n .0, omega (arith, n)))
 
 pub read-answers : ReadAnswers
 unfolding readInto
 read-answers s image o =
-    by-count readNumber (λ c. c .1) (readInto s image) (by-guard readNumber (leb 410 (length image)) 200 0 (read s) (tt, (omega arith, omega arith)) (of-read s o))
+    by-count readRefusal (λ c. c .1) (readInto s image) (by-guard readRefusal (leb 410 (length image)) 200 0 (read s) (tt, (omega arith, omega arith)) (of-read s o))
 
 -- ---- a write and an octet field
 
@@ -112,60 +112,60 @@ octets-answers image hardware number len part =
 
 numbersIn : List Check → Bool
 numbersIn [] = true
-numbersIn (c ∷ cs) = ruleNumber (c .0) && (ltb 0 (c .0) && (ltb (c .0) 256 && numbersIn cs))
+numbersIn (c ∷ cs) = ruleRefusal (c .0) && (ltb 0 (c .0) && (ltb (c .0) 256 && numbersIn cs))
 
 -- where the first that refuses is none, it is 0
-first-in : {A : Type 0} (a : A) (cs : List Check) → T (numbersIn cs) → Within ruleNumber (unless (firstRefusing cs) a)
+first-in : {A : Type 0} (a : A) (cs : List Check) → T (numbersIn cs) → Within ruleRefusal (unless (firstRefusing cs) a)
 unfolding numbersIn firstRefusing unless
 first-in a [] t = unfold pick in tt
 first-in a (c ∷ cs) t =
-    let t₁ = and-right (ruleNumber (c .0)) _ t in
+    let t₁ = and-right (ruleRefusal (c .0)) _ t in
     let t₂ = and-right (ltb 0 (c .0)) _ t₁ in
-    go (c .1) (and-left (ruleNumber (c .0)) _ t, (ltb→lt 0 (c .0) (and-left (ltb 0 (c .0)) _ t₁), ltb→lt (c .0) 256 (and-left (ltb (c .0) 256) _ t₂))) (first-in a cs (and-right (ltb (c .0) 256) _ t₂))
+    go (c .1) (and-left (ruleRefusal (c .0)) _ t, (ltb→lt 0 (c .0) (and-left (ltb 0 (c .0)) _ t₁), ltb→lt (c .0) 256 (and-left (ltb (c .0) 256) _ t₂))) (first-in a cs (and-right (ltb (c .0) 256) _ t₂))
   where
-    one : T (ruleNumber (c .0)) × ((1 ≤ c .0) × (c .0 < 256)) → (b : Bool) → Within ruleNumber (pick b (got a) (refused (c .0) 0))
+    one : T (ruleRefusal (c .0)) × ((1 ≤ c .0) × (c .0 < 256)) → (b : Bool) → Within ruleRefusal (pick b (got a) (refused (c .0) 0))
     one x true = unfold pick in tt
     one x false = unfold pick in x
 
-    go : (b : Bool) → T (ruleNumber (c .0)) × ((1 ≤ c .0) × (c .0 < 256)) → Within ruleNumber (pick (eqb (firstRefusing cs) 0) (got a) (refused (firstRefusing cs) 0))
-        → Within ruleNumber (pick (eqb (pick b (c .0) (firstRefusing cs)) 0) (got a) (refused (pick b (c .0) (firstRefusing cs)) 0))
+    go : (b : Bool) → T (ruleRefusal (c .0)) × ((1 ≤ c .0) × (c .0 < 256)) → Within ruleRefusal (pick (eqb (firstRefusing cs) 0) (got a) (refused (firstRefusing cs) 0))
+        → Within ruleRefusal (pick (eqb (pick b (c .0) (firstRefusing cs)) 0) (got a) (refused (pick b (c .0) (firstRefusing cs)) 0))
     go true x y = unfold pick in one x (eqb (c .0) 0)
     go false x y = unfold pick in y
 
-of-ruled : (level keymintLevel : ℕ) (s h : Rules) (q : Request) → Within ruleNumber (ruled level keymintLevel s h q)
+of-ruled : (level keymintLevel : ℕ) (s h : Rules) (q : Request) → Within ruleRefusal (ruled level keymintLevel s h q)
 unfolding ruled numbersIn shapeChecks dateChecks tokenChecks deviceChecks
 of-ruled level keymintLevel s h q = first-in _ (checks s h q) tt
 
-of-ruling : (r : Record) (q : Request) → Within ruleNumber (ruling r q)
+of-ruling : (r : Record) (q : Request) → Within ruleRefusal (ruling r q)
 unfolding ruling
-of-ruling r q = by-guard ruleNumber (wellShapedRecord r) 20 0 _ (tt, (omega arith, omega arith)) (of-ruled _ _ _ _ q)
+of-ruling r q = by-guard ruleRefusal (wellShapedRecord r) 20 0 _ (tt, (omega arith, omega arith)) (of-ruled _ _ _ _ q)
 
 pub rule-answers : RuleAnswers
 unfolding ruleImage
 rule-answers image request permit =
-    by-count ruleNumber (λ p. 0) (ruleImage image request permit)
-    (by-guard ruleNumber (leb 16 (length request)) 200 0 _ (tt, (omega arith, omega arith))
-    (by-guard ruleNumber (leb 4 (length permit)) 200 0 _ (tt, (omega arith, omega arith))
-    (of-image ruleNumber image (λ r. ruling r (requestOf request)) tt tt (λ r. of-ruling r (requestOf request)))))
+    by-count ruleRefusal (λ p. 0) (ruleImage image request permit)
+    (by-guard ruleRefusal (leb 16 (length request)) 200 0 _ (tt, (omega arith, omega arith))
+    (by-guard ruleRefusal (leb 4 (length permit)) 200 0 _ (tt, (omega arith, omega arith))
+    (of-image ruleRefusal image (λ r. ruling r (requestOf request)) tt tt (λ r. of-ruling r (requestOf request)))))
 
 -- ---- an enrolment
 
-of-enrolled : (r : Record) (s expected : List ℕ) → Within enrolNumber (enrolled r s expected)
+of-enrolled : (r : Record) (s expected : List ℕ) → Within enrolRefusal (enrolled r s expected)
 unfolding enrolled judged
 of-enrolled r s expected =
-    by-guard enrolNumber _ 20 0 _ (tt, (omega arith, omega arith))
-    (by-guard enrolNumber _ 20 0 _ (tt, (omega arith, omega arith))
-    (by-guard enrolNumber _ 50 0 _ (tt, (omega arith, omega arith))
-    (by-guard enrolNumber _ 51 0 _ (tt, (omega arith, omega arith))
-    (by-guard enrolNumber _ 52 0 _ (tt, (omega arith, omega arith))
-    (by-guard enrolNumber _ 53 0 _ (tt, (omega arith, omega arith))
-    (by-guard enrolNumber _ 54 0 _ (tt, (omega arith, omega arith))
-    (by-guard enrolNumber _ 55 0 _ (tt, (omega arith, omega arith)) tt)))))))
+    by-guard enrolRefusal _ 20 0 _ (tt, (omega arith, omega arith))
+    (by-guard enrolRefusal _ 20 0 _ (tt, (omega arith, omega arith))
+    (by-guard enrolRefusal _ 50 0 _ (tt, (omega arith, omega arith))
+    (by-guard enrolRefusal _ 51 0 _ (tt, (omega arith, omega arith))
+    (by-guard enrolRefusal _ 52 0 _ (tt, (omega arith, omega arith))
+    (by-guard enrolRefusal _ 53 0 _ (tt, (omega arith, omega arith))
+    (by-guard enrolRefusal _ 54 0 _ (tt, (omega arith, omega arith))
+    (by-guard enrolRefusal _ 55 0 _ (tt, (omega arith, omega arith)) tt)))))))
 
 pub enrol-answers : EnrolAnswers
 unfolding enrolImage
 enrol-answers image s expected =
-    by-count enrolNumber (λ u. 0) (enrolImage image s expected) (of-image enrolNumber image (λ r. enrolled r s expected) tt tt (λ r. of-enrolled r s expected))
+    by-count enrolRefusal (λ u. 0) (enrolImage image s expected) (of-image enrolRefusal image (λ r. enrolled r s expected) tt tt (λ r. of-enrolled r s expected))
 
 -- ---- a listing
 

@@ -8,7 +8,7 @@ use lib.ListN.{getD}
 use borrow.Author.Tests.{le-leb, lt-leb, not-true, not-false}
 use Rattle.answer.specs.Answer.{pick}
 use Rattle.answer.proofs.Logic.{by-le}
-use Rattle.schema.specs.Table.{rowAt}
+use Rattle.schema.specs.Table.{rowAt, rowCount}
 use Rattle.schema.specs.Rows.{ofKind, ofRow}
 use Rattle.schema.specs.declared.Row.{Row}
 use Rattle.records.specs.declared.RootOfTrust.{RootOfTrust}
@@ -63,18 +63,18 @@ module _ (l : FieldList) (len : ℕ) where
   pub row-absent : (k : ℕ) → SoFar l len k → getD (l .present) k false ≡ false → SoFar l len (k + 1)
   row-absent k i e = all-more (rowInside l len) k i (absent-inside l len k e)
 
-  module _ (k : ℕ) (h : k < 42) (r : Row) (a : Bool) (e : getD (l .present) k false ≡ true) (f : ofRow r ≡ rowAt k)
+  module _ (k : ℕ) (h : k < rowCount) (r : Row) (a : Bool) (e : getD (l .present) k false ≡ true) (f : ofRow r ≡ rowAt k)
       (g : a ≡ contentInside (ofKind (r .kind)) (getD (l .values) k 0) (getD (l .sizes) k 0) (l .root) len) where
     pub row-outside : not a ≡ true → false ≡ listInside l len
     unfolding listInside
-    row-outside n = all-fails (rowInside l len) 42 k h (present-inside l len k r a e f g ∙ not-true a n)
+    row-outside n = all-fails (rowInside l len) rowCount k h (present-inside l len k r a e f g ∙ not-true a n)
 
     pub row-inside : SoFar l len k → not a ≡ false → SoFar l len (k + 1)
     row-inside i n = all-more (rowInside l len) k i (present-inside l len k r a e f g ∙ not-false a n)
 
-  pub rows-end : (k : ℕ) → SoFar l len k → 42 ≤ k → true ≡ listInside l len
+  pub rows-end : (k : ℕ) → SoFar l len k → rowCount ≤ k → true ≡ listInside l len
   unfolding listInside
-  rows-end k i h = all-fewer (rowInside l len) 42 k h i
+  rows-end k i h = all-fewer (rowInside l len) rowCount k h i
 
 -- the parts of a record, in turn
 module _ (r : Record) (len : ℕ) (a : Bool) (e : a ≡ partInside (r .challenge) len) where

@@ -13,7 +13,7 @@ use denote.Enum.Declared.{tagOf}
 use types.Run.{OneOf}
 use Rattle.answer.specs.Answer.{pick}
 use Rattle.answer.proofs.Logic.{by-le}
-use Rattle.schema.specs.Table.{Kind, set, number32, number64, null, octets, root, rows, rowAt, knownVersion, heldIn, levelTop, hashed, top32, top64}
+use Rattle.schema.specs.Table.{Kind, set, number32, number64, null, octets, root, rows, rowAt, knownVersion, heldIn, levelTop, hashed, top32, top64, rowCount}
 use Rattle.schema.specs.Rows.{ofKind, ofRow}
 use Rattle.schema.specs.declared.Row.{Row}
 use Rattle.schema.specs.declared.Kind as code
@@ -176,22 +176,22 @@ module _ (v : ℕ) (l : FieldList) where
     unfolding rowPlain pick
     row-absent a = all-more (rowPlain v l) k i (rw a refl)
 
-    module _ (h : k < 42) (a : getD (l .present) k false ≡ true) (r : Row) (f : ofRow r ≡ rowAt k) (x : Bool) (e : x ≡ heldIn v (ofRow r)) where
-      pub not-held : not x ≡ true → false ≡ allBelow (rowPlain v l) 42
+    module _ (h : k < rowCount) (a : getD (l .present) k false ≡ true) (r : Row) (f : ofRow r ≡ rowAt k) (x : Bool) (e : x ≡ heldIn v (ofRow r)) where
+      pub not-held : not x ≡ true → false ≡ allBelow (rowPlain v l) rowCount
       unfolding rowPlain pick
-      not-held n = all-fails (rowPlain v l) 42 k h (rw (a, ← f, ← e, not-true x n) refl)
+      not-held n = all-fails (rowPlain v l) rowCount k h (rw (a, ← f, ← e, not-true x n) refl)
 
       module _ (n : not x ≡ false) (y : Bool) (g : y ≡ plainShaped (ofKind (r .kind)) (getD (l .values) k 0)) where
-        pub row-bad : not y ≡ true → false ≡ allBelow (rowPlain v l) 42
+        pub row-bad : not y ≡ true → false ≡ allBelow (rowPlain v l) rowCount
         unfolding rowPlain pick
-        row-bad m = all-fails (rowPlain v l) 42 k h (rw (a, ← f, ← e, not-false x n, ← g, not-true y m) refl)
+        row-bad m = all-fails (rowPlain v l) rowCount k h (rw (a, ← f, ← e, not-false x n, ← g, not-true y m) refl)
 
         pub row-good : not y ≡ false → allBelow (rowPlain v l) (k + 1) ≡ true
         unfolding rowPlain pick
         row-good m = all-more (rowPlain v l) k i (rw (a, ← f, ← e, not-false x n, ← g, not-false y m) refl)
 
-  pub rows-end : (k : ℕ) → allBelow (rowPlain v l) k ≡ true → 42 ≤ k → true ≡ allBelow (rowPlain v l) 42
-  rows-end k i h = all-fewer (rowPlain v l) 42 k h i
+  pub rows-end : (k : ℕ) → allBelow (rowPlain v l) k ≡ true → rowCount ≤ k → true ≡ allBelow (rowPlain v l) rowCount
+  rows-end k i h = all-fewer (rowPlain v l) rowCount k h i
 
 -- ---- a list: its sets and 704, and its rows
 
@@ -222,23 +222,23 @@ apart-good false held x e = refl
 module _ (v : ℕ) (l : FieldList) where
   pub purpose-bad : (x : Bool) → x ≡ pick (getD (l .present) 0 false) (setShaped (l .purpose)) true → not x ≡ true → false ≡ listShaped v l
   unfolding listShaped rowShaped rows valueShaped pick
-  purpose-bad x e n = all-fails (rowShaped v l) 42 0 (omega arith) (apart-bad (getD (l .present) 0 false) (heldIn v (rowAt 0)) (setShaped (l .purpose)) (sym e ∙ not-true x n))
+  purpose-bad x e n = all-fails (rowShaped v l) rowCount 0 (omega arith) (apart-bad (getD (l .present) 0 false) (heldIn v (rowAt 0)) (setShaped (l .purpose)) (sym e ∙ not-true x n))
 
   pub digest-bad : (x : Bool) → x ≡ pick (getD (l .present) 3 false) (setShaped (l .digest)) true → not x ≡ true → false ≡ listShaped v l
   unfolding listShaped rowShaped rows valueShaped pick
-  digest-bad x e n = all-fails (rowShaped v l) 42 3 (omega arith) (apart-bad (getD (l .present) 3 false) (heldIn v (rowAt 3)) (setShaped (l .digest)) (sym e ∙ not-true x n))
+  digest-bad x e n = all-fails (rowShaped v l) rowCount 3 (omega arith) (apart-bad (getD (l .present) 3 false) (heldIn v (rowAt 3)) (setShaped (l .digest)) (sym e ∙ not-true x n))
 
   pub padding-bad : (x : Bool) → x ≡ pick (getD (l .present) 4 false) (setShaped (l .padding)) true → not x ≡ true → false ≡ listShaped v l
   unfolding listShaped rowShaped rows valueShaped pick
-  padding-bad x e n = all-fails (rowShaped v l) 42 4 (omega arith) (apart-bad (getD (l .present) 4 false) (heldIn v (rowAt 4)) (setShaped (l .padding)) (sym e ∙ not-true x n))
+  padding-bad x e n = all-fails (rowShaped v l) rowCount 4 (omega arith) (apart-bad (getD (l .present) 4 false) (heldIn v (rowAt 4)) (setShaped (l .padding)) (sym e ∙ not-true x n))
 
   pub mgf-bad : (x : Bool) → x ≡ pick (getD (l .present) 7 false) (setShaped (l .mgf)) true → not x ≡ true → false ≡ listShaped v l
   unfolding listShaped rowShaped rows valueShaped pick
-  mgf-bad x e n = all-fails (rowShaped v l) 42 7 (omega arith) (apart-bad (getD (l .present) 7 false) (heldIn v (rowAt 7)) (setShaped (l .mgf)) (sym e ∙ not-true x n))
+  mgf-bad x e n = all-fails (rowShaped v l) rowCount 7 (omega arith) (apart-bad (getD (l .present) 7 false) (heldIn v (rowAt 7)) (setShaped (l .mgf)) (sym e ∙ not-true x n))
 
   pub root-bad : (x : Bool) → x ≡ pick (getD (l .present) 26 false) (rootShaped v (l .root)) true → not x ≡ true → false ≡ listShaped v l
   unfolding listShaped rowShaped rows valueShaped pick
-  root-bad x e n = all-fails (rowShaped v l) 42 26 (omega arith) (apart-bad (getD (l .present) 26 false) (heldIn v (rowAt 26)) (rootShaped v (l .root)) (sym e ∙ not-true x n))
+  root-bad x e n = all-fails (rowShaped v l) rowCount 26 (omega arith) (apart-bad (getD (l .present) 26 false) (heldIn v (rowAt 26)) (rootShaped v (l .root)) (sym e ∙ not-true x n))
 
   module _ (a b d f g : Bool)
       (ea : a ≡ pick (getD (l .present) 0 false) (setShaped (l .purpose)) true) (na : not a ≡ false)
@@ -246,7 +246,7 @@ module _ (v : ℕ) (l : FieldList) where
       (ed : d ≡ pick (getD (l .present) 4 false) (setShaped (l .padding)) true) (nd : not d ≡ false)
       (ef : f ≡ pick (getD (l .present) 7 false) (setShaped (l .mgf)) true) (nf : not f ≡ false)
       (eg : g ≡ pick (getD (l .present) 26 false) (rootShaped v (l .root)) true) (ng : not g ≡ false) where
-    apart : (k : ℕ) (j : Kind) → k < 42 → rowAt k .kind ≡ j
+    apart : (k : ℕ) (j : Kind) → k < rowCount → rowAt k .kind ≡ j
         → pick (getD (l .present) k false) (heldIn v (rowAt k) && plainShaped j (getD (l .values) k 0)) true ≡ pick (getD (l .present) k false) (heldIn v (rowAt k) && valueShaped v j (getD (l .values) k 0) (setAt l (rowAt k .number)) (l .root)) true
     unfolding plainShaped valueShaped rows pick
     apart k number32 h q = refl
@@ -261,9 +261,9 @@ module _ (v : ℕ) (l : FieldList) where
         (λ (u : k ≡ 7). rw u (apart-good (getD (l .present) 7 false) (heldIn v (rowAt 7)) (setShaped (l .mgf)) (sym ef ∙ not-false f nf)))
     apart k root h q = rw (by-root k h q) (apart-good (getD (l .present) 26 false) (heldIn v (rowAt 26)) (rootShaped v (l .root)) (sym eg ∙ not-false g ng))
 
-    pub list-by-rows : (y : Bool) → y ≡ allBelow (rowPlain v l) 42 → y ≡ listShaped v l
+    pub list-by-rows : (y : Bool) → y ≡ allBelow (rowPlain v l) rowCount → y ≡ listShaped v l
     unfolding listShaped rowPlain rowShaped
-    list-by-rows y e = e ∙ all-agree (rowPlain v l) (rowShaped v l) 42 (λ k h. apart k (rowAt k .kind) h refl)
+    list-by-rows y e = e ∙ all-agree (rowPlain v l) (rowShaped v l) rowCount (λ k h. apart k (rowAt k .kind) h refl)
 
 module _ (r : Record) (x : Bool) (e : x ≡ headShaped (r .attestation .version) (r .attestation .level) (r .keymint .version) (r .keymint .level)) where
   pub head-bad : not x ≡ true → false ≡ wellShapedRecord r

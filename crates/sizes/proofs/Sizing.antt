@@ -23,7 +23,7 @@ use Rattle.codec.proofs.Header.{one-octet, two-octets, three-octets}
 use Rattle.schema.specs.declared.Kind.{Kind}
 use Rattle.schema.specs.declared.Row.{Row}
 use Rattle.schema.proofs.Kind as kinds
-use Rattle.schema.specs.Table.{rowAt}
+use Rattle.schema.specs.Table.{rowAt, rowCount}
 use Rattle.schema.specs.Rows.{ofKind, ofRow}
 use Rattle.schema.specs.Content.{Value, nul, nums, trust, field, enumeratedElement, octetsElement, booleanElement, hashElement, rootContent, valueElement, fieldElement, listElement, keyDescription, encode}
 use Rattle.records.specs.declared.NumberSet.{NumberSet}
@@ -32,11 +32,12 @@ use Rattle.records.specs.declared.FieldList.{FieldList}
 use Rattle.records.specs.declared.Record.{Record}
 use Rattle.records.specs.Content.{octetsAt, partOf, membersOf, rootOf, setAt, valueAt, fieldAt, upTo, fieldsOf, contentOf}
 use Rattle.sizes.specs.Plain.{plainValue}
-use Rattle.sizes.specs.Size.{capped, elementSize, Sized, securityOctets, headOctets, headElements}
+use Rattle.sizes.specs.Size.{pastLimit, capped, elementSize, Sized, securityOctets, headOctets, headElements}
+use Rattle.codec.specs.Limits.{extensionBytes}
 
 -- ---- pieces
 
-capped-all : (n : ℕ) → 8193 ≤ n → capped n ≡ 8193
+capped-all : (n : ℕ) → pastLimit ≤ n → capped n ≡ pastLimit
 capped-all n h = omega arith
 
 capped-left : (x y : ℕ) → capped (capped x + y) ≡ capped (x + y)
@@ -50,17 +51,17 @@ capped-sum x y =
     ∙ capped-left y x
     ∙ ap capped (add-comm y x)
 
-pub capped-same : (b x : ℕ) → x ≤ 8192 → capped b ≡ capped x → b ≡ x
+pub capped-same : (b x : ℕ) → x ≤ extensionBytes → capped b ≡ capped x → b ≡ x
 capped-same b x h e = omega arith
 
-capped-over : (b x : ℕ) → 8192 < x → capped b ≡ capped x → 8193 ≤ b
+capped-over : (b x : ℕ) → extensionBytes < x → capped b ≡ capped x → pastLimit ≤ b
 capped-over b x h e = omega arith
 
 -- what a size that was found says
-pub sized-over : (xs : List ℕ) (n : ℕ) → Sized xs n → 8192 < n → 8192 < length xs
+pub sized-over : (xs : List ℕ) (n : ℕ) → Sized xs n → extensionBytes < n → extensionBytes < length xs
 sized-over xs n e h = omega arith
 
-pub sized-within : (xs : List ℕ) (n : ℕ) → Sized xs n → n ≤ 8192 → n ≡ length xs
+pub sized-within : (xs : List ℕ) (n : ℕ) → Sized xs n → n ≤ extensionBytes → n ≡ length xs
 sized-within xs n e h = omega arith
 
 -- one piece after another
@@ -83,7 +84,7 @@ element-length f n xs = rw (length-append, length-append, identifier-length f n)
 pub element-sized : (f n b r : ℕ) (xs : List ℕ) → capped b ≡ capped (length xs) → r ≡ elementSize n b → Sized (elementOctets (identifier f n) xs) r
 unfolding elementSize
 element-sized f n b r xs e q =
-    by-le (length xs) 8192
+    by-le (length xs) extensionBytes
     (λ h. record { is = rw (element-length f n xs, ← capped-same b (length xs) h e) q })
     (λ h. let o = capped-over b (length xs) h e in
     record { is = q ∙ capped-all _ (omega arith) ∙ rw (element-length f n xs) (sym (capped-all _ (omega arith))) })
@@ -267,8 +268,8 @@ module _ (l : FieldList) (s : List ℕ) where
   unfolding upTo fieldAt pick
   fields-skip k n h c = rw (add-one, h, append-nil) c
 
-  pub fields-end : (k n : ℕ) → 42 ≤ k → k ≤ 42 → Counted k n → Sized (chainOctets fieldElement (fieldsOf l (octetsAt s))) n
-  fields-end k n h g c = let z : k ≡ 42 = omega arith in rw z at c
+  pub fields-end : (k n : ℕ) → rowCount ≤ k → k ≤ rowCount → Counted k n → Sized (chainOctets fieldElement (fieldsOf l (octetsAt s))) n
+  fields-end k n h g c = let z : k ≡ rowCount = omega arith in rw z at c
 
 -- ---- the whole
 

@@ -4,6 +4,7 @@ use mathlib.Core.Path.{_≡_}
 use mathlib.Core.List.{List, _++_}
 use Prim.Native.Nat.{ℕ, _+_, _-_}
 use lib.ListN.{length}
+use Rattle.codec.specs.Limits.{extensionBytes}
 use Rattle.codec.specs.Shortest.{lengthOctets}
 use Rattle.codec.specs.Header.{identifier, identifierOctets}
 use Rattle.codec.specs.Integer.{integerElement}
@@ -15,9 +16,13 @@ use Rattle.records.specs.declared.Security.{Security}
 use Rattle.records.specs.Content.{octetsAt, partOf, fieldsOf, contentOf}
 use Rattle.sizes.specs.declared.Sizes.{Sizes}
 
--- the lesser of n and 8,193
+-- one more than the limit of bytes
+abbrev pub pastLimit : ℕ
+pastLimit = extensionBytes + 1
+
+-- the lesser of n and that
 abbrev pub capped : ℕ → ℕ
-capped n = n - (n - 8193)
+capped n = n - (n - pastLimit)
 
 -- of an element with this tag number, of any form, and so many content octets
 unfoldable pub elementSize : ℕ → ℕ → ℕ

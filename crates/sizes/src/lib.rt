@@ -1,5 +1,6 @@
 // How many octets each piece of an encoding has, counted up to 8,193. Nothing here asks that a record be well-shaped:
 // sets are cut at their 16 slots and parts at the end of the buffer, as a record's content is.
+use der::walk::EXTENSION_BYTES;
 use der_write::identifier_size;
 use der_write::integer_size;
 use der_write::length_size;
@@ -23,6 +24,9 @@ ghost use Rattle.records.specs.Content.{octetsAt, partOf, membersOf, rootOf, fi
 ghost use Rattle.sizes.specs.Plain.{plainValue};
 ghost use Rattle.sizes.specs.Size.{capped, elementSize, Sized, securityOctets, headElements, Measured};
 
+// Stands for every size over the limit.
+const PAST_LIMIT: usize = EXTENSION_BYTES + 1;
+
 // Of the fields of each list and of the eight elements, without their headers; and of the whole encoding.
 pub struct Sizes {
     pub software: usize,
@@ -35,11 +39,11 @@ pub struct Sizes {
 fn add(a: usize, b: usize) -> usize
     ensures { λ n. ⌜ n ≡ capped (a + b) ⌝ }
 {
-    if 8193 <= a {
-        return 8193;
+    if PAST_LIMIT <= a {
+        return PAST_LIMIT;
     }
-    if 8193 - a <= b {
-        return 8193;
+    if PAST_LIMIT - a <= b {
+        return PAST_LIMIT;
     }
     a + b
 }

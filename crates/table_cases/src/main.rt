@@ -1,6 +1,7 @@
 // Writes for each version the numbers that it holds, a line each. scripts/reader_cases.py makes the expected lines from the
 // schemas that source document 001 prints.
 use libc::STDOUT_FILENO;
+use schema::ROWS;
 use schema::held;
 use schema::row_at;
 
@@ -13,7 +14,7 @@ fn say_version(version: u32) {
     io::print_decimal(STDOUT_FILENO, version as u64);
     io::write_all(STDOUT_FILENO, b":");
     let mut k: usize = 0;
-    while k < 42 {
+    while k < ROWS {
         let row = row_at(k);
         if held(version, row) {
             say_number(row.number);

@@ -17,6 +17,7 @@ use Rattle.sizes.specs.Size.{Measured}
 use Rattle.writer.specs.Put.{Puts}
 use Rattle.writer.specs.Written.{encodingOf, writable, written, leftBy}
 use Rattle.sizes.proofs.Sizing.{sized-over, sized-within}
+use Rattle.codec.specs.Limits.{extensionBytes}
 
 module _ (r : Record) (s out : List ℕ) where
   -- a refusal, and the output as it was
@@ -40,13 +41,13 @@ module _ (r : Record) (s out : List ℕ) where
         is-writable : writable r s ≡ true
         is-writable = rw (← e, not-false a n, ← f, not-false b m) refl
 
-        pub too-long : 8192 < z .whole → Refuses encodingTooLong
+        pub too-long : extensionBytes < z .whole → Refuses encodingTooLong
         unfolding written guard
         too-long h =
             let l = sized-over (encodingOf r s) (z .whole) (g .whole) h in
-            refuses encodingTooLong (rw (is-writable, lt-leb (length (encodingOf r s)) 8192 l) refl)
+            refuses encodingTooLong (rw (is-writable, lt-leb (length (encodingOf r s)) extensionBytes l) refl)
 
-        module _ (h : z .whole ≤ 8192) where
+        module _ (h : z .whole ≤ extensionBytes) where
           its-length : z .whole ≡ length (encodingOf r s)
           its-length = sized-within (encodingOf r s) (z .whole) (g .whole) h
 
@@ -54,12 +55,12 @@ module _ (r : Record) (s out : List ℕ) where
           unfolding written guard
           short k =
               let l = its-length in
-              refuses outputShort (rw (is-writable, ← l, le-leb (z .whole) 8192 h, lt-leb (z .whole) (length out) k) refl)
+              refuses outputShort (rw (is-writable, ← l, le-leb (z .whole) extensionBytes h, lt-leb (z .whole) (length out) k) refl)
 
           pub wrote : (new : List ℕ) (q : ℕ) → z .whole ≤ length out → Puts out 0 (encodingOf r s) new q → (got q ≡ written r s out) × (new ≡ leftBy r s out)
           unfolding written guard
           wrote new q k p =
               let l = its-length in
               let d = p .is (omega arith) (omega arith) in
-              let w : written r s out ≡ got (length (encodingOf r s)) = rw (is-writable, ← l, le-leb (z .whole) 8192 h, le-leb (z .whole) (length out) k) refl in
+              let w : written r s out ≡ got (length (encodingOf r s)) = rw (is-writable, ← l, le-leb (z .whole) extensionBytes h, le-leb (z .whole) (length out) k) refl in
               rw w (ap got (d .1 ∙ omega arith), d .0)

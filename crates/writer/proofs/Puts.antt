@@ -26,7 +26,7 @@ use Rattle.der_write.specs.declared.Put.{Put}
 use Rattle.schema.specs.declared.Kind.{Kind}
 use Rattle.schema.proofs.Kind as kinds
 use Rattle.schema.specs.declared.Row.{Row}
-use Rattle.schema.specs.Table.{Row as TableRow, row as tableRow, null, rows, rowAt}
+use Rattle.schema.specs.Table.{Row as TableRow, row as tableRow, null, rows, rowAt, rowCount}
 use Rattle.schema.specs.Rows.{ofKind, ofRow}
 use Rattle.schema.specs.Content.{Value, nums, trust, Field, field, enumeratedElement, octetsElement, booleanElement, hashElement, rootContent, valueElement, fieldElement, listElement, keyDescription, encode}
 use Rattle.records.specs.declared.RootOfTrust.{RootOfTrust}
@@ -37,6 +37,7 @@ use Rattle.sizes.specs.Plain.{plainValue}
 use Rattle.sizes.specs.Size.{capped, Sized, securityOctets, headOctets}
 use Rattle.writer.specs.Put.{Puts}
 use Rattle.sizes.proofs.Sizing.{chain-append, capped-same, capped-twice, plain-null, row-field, Head, eight-is}
+use Rattle.codec.specs.Limits.{extensionBytes}
 
 -- ---- one after another
 
@@ -58,7 +59,7 @@ joined {old} {mid} {new} {p} {q} {r} {xs} {ys} e f = record {
 
 module _ (old : List ℕ) (p : ℕ) (w : Put) (new : List ℕ) where
   -- an answer that is a value leaves the octets, and its value is the place after them
-  came : (m : Answer ℕ) (xs : List ℕ) (q : ℕ) → ofPut w ≡ m → new ≡ left m old p xs → (length xs ≤ 8192 → p + length xs ≤ length old → m ≡ got (p + length xs))
+  came : (m : Answer ℕ) (xs : List ℕ) (q : ℕ) → ofPut w ≡ m → new ≡ left m old p xs → (length xs ≤ extensionBytes → p + length xs ≤ length old → m ≡ got (p + length xs))
       → w ≡ Put.Next q → Puts old p xs new q
   came m xs q e f g n = record {
     is = λ few room.
@@ -67,21 +68,21 @@ module _ (old : List ℕ) (p : ℕ) (w : Put) (new : List ℕ) where
   }
 
   -- a refusal is no such answer
-  came-not : (m : Answer ℕ) (xs : List ℕ) (a b q : ℕ) → ofPut w ≡ m → (length xs ≤ 8192 → p + length xs ≤ length old → m ≡ got (p + length xs)) → w ≡ Put.Refused a b → Puts old p xs new q
+  came-not : (m : Answer ℕ) (xs : List ℕ) (a b q : ℕ) → ofPut w ≡ m → (length xs ≤ extensionBytes → p + length xs ≤ length old → m ≡ got (p + length xs)) → w ≡ Put.Refused a b → Puts old p xs new q
   came-not m xs a b q e g n = record { is = λ few room. absurd (refused-got (rw n at e ∙ g few room)) }
 
   module _ (f n z : ℕ) (hf : f < 8) (hn : n < 16384) (e : ofPut w ≡ headerPut old p (identifier f n) z) where
-    header-got : z ≤ 8192 → p + length (headerOctets (identifier f n) z) ≤ length old → headerPut old p (identifier f n) z ≡ got (p + length (headerOctets (identifier f n) z))
+    header-got : z ≤ extensionBytes → p + length (headerOctets (identifier f n) z) ≤ length old → headerPut old p (identifier f n) z ≡ got (p + length (headerOctets (identifier f n) z))
     unfolding headerPut roomFor guard
     header-got h room =
         let l : z < 65536 = omega arith in
         rw (lt-ltb f 8 hf, lt-ltb n 16384 hn, lt-ltb z 65536 l, le-leb _ _ room) refl
 
     pub header-put : (q : ℕ) → new ≡ left (headerPut old p (identifier f n) z) old p (headerOctets (identifier f n) z) → w ≡ Put.Next q
-        → z ≤ 8192 → Puts old p (headerOctets (identifier f n) z) new q
+        → z ≤ extensionBytes → Puts old p (headerOctets (identifier f n) z) new q
     header-put q g k h = came _ _ q e g (λ few room. header-got h room) k
 
-    pub header-not : (a b q : ℕ) → w ≡ Put.Refused a b → z ≤ 8192 → Puts old p (headerOctets (identifier f n) z) new q
+    pub header-not : (a b q : ℕ) → w ≡ Put.Refused a b → z ≤ extensionBytes → Puts old p (headerOctets (identifier f n) z) new q
     header-not a b q k h = came-not _ _ a b q e (λ few room. header-got h room) k
 
   module _ (x : ℕ) (e : ofPut w ≡ roomFor old p (integerElement x)) where
@@ -153,7 +154,7 @@ bytes-end old new t p i h e = record { is = λ few room. (e ∙ rw (take-all i t
 
 -- its header with the size that was found, and its content
 pub element-put : {old mid new : List ℕ} {p q r : ℕ} (f n b : ℕ) (xs : List ℕ) → capped b ≡ capped (length xs)
-    → (b ≤ 8192 → Puts old p (headerOctets (identifier f n) b) mid q) → Puts mid q xs new r → Puts old p (elementOctets (identifier f n) xs) new r
+    → (b ≤ extensionBytes → Puts old p (headerOctets (identifier f n) b) mid q) → Puts mid q xs new r → Puts old p (elementOctets (identifier f n) xs) new r
 unfolding elementOctets
 element-put {old} {mid} {new} {p} {q} {r} f n b xs c e g = record {
   is = λ few room.
@@ -164,26 +165,26 @@ element-put {old} {mid} {new} {p} {q} {r} f n b xs c e g = record {
 }
 
 pub around : {old mid new : List ℕ} {p q r : ℕ} (f n b : ℕ) (xs : List ℕ) → Sized xs b
-    → (b ≤ 8192 → Puts old p (headerOctets (identifier f n) b) mid q) → Puts mid q xs new r → Puts old p (elementOctets (identifier f n) xs) new r
+    → (b ≤ extensionBytes → Puts old p (headerOctets (identifier f n) b) mid q) → Puts mid q xs new r → Puts old p (elementOctets (identifier f n) xs) new r
 around f n b xs c e g = element-put f n b xs (rw (c .is) (capped-twice (length xs))) e g
 
 pub boolean-put : {old mid new : List ℕ} {p q r : ℕ} (b : Bool) (x : ℕ) → x ∷ [] ≡ pick b (255 ∷ []) (0 ∷ [])
-    → (1 ≤ 8192 → Puts old p (headerOctets (identifier 0 1) 1) mid q) → Puts mid q (x ∷ []) new r → Puts old p (booleanElement b) new r
+    → (1 ≤ extensionBytes → Puts old p (headerOctets (identifier 0 1) 1) mid q) → Puts mid q (x ∷ []) new r → Puts old p (booleanElement b) new r
 unfolding booleanElement
 boolean-put b x e f g = rw (← e) (element-put 0 1 1 (x ∷ []) refl f g)
 
 pub boolean-yes : {old mid new : List ℕ} {p q r : ℕ} (b : Bool) → b ≡ true
-    → (1 ≤ 8192 → Puts old p (headerOctets (identifier 0 1) 1) mid q) → Puts mid q (255 ∷ []) new r → Puts old p (booleanElement b) new r
+    → (1 ≤ extensionBytes → Puts old p (headerOctets (identifier 0 1) 1) mid q) → Puts mid q (255 ∷ []) new r → Puts old p (booleanElement b) new r
 unfolding pick
 boolean-yes b e f g = boolean-put b 255 (rw e refl) f g
 
 pub boolean-no : {old mid new : List ℕ} {p q r : ℕ} (b : Bool) → b ≡ false
-    → (1 ≤ 8192 → Puts old p (headerOctets (identifier 0 1) 1) mid q) → Puts mid q (0 ∷ []) new r → Puts old p (booleanElement b) new r
+    → (1 ≤ extensionBytes → Puts old p (headerOctets (identifier 0 1) 1) mid q) → Puts mid q (0 ∷ []) new r → Puts old p (booleanElement b) new r
 unfolding pick
 boolean-no b e f g = boolean-put b 0 (rw e refl) f g
 
 pub octets-put : {old mid new : List ℕ} {p q r : ℕ} (bs xs : List ℕ) → bs ≡ xs
-    → (length bs ≤ 8192 → Puts old p (headerOctets (identifier 0 4) (length bs)) mid q) → Puts mid q bs new r → Puts old p (octetsElement xs) new r
+    → (length bs ≤ extensionBytes → Puts old p (headerOctets (identifier 0 4) (length bs)) mid q) → Puts mid q bs new r → Puts old p (octetsElement xs) new r
 unfolding octetsElement
 octets-put bs xs e f g = rw (← e) (element-put 0 4 (length bs) bs refl f g)
 
@@ -213,7 +214,7 @@ module _ (m : List ℕ) (i : ℕ) where
       let z : take i m ≡ take k m = take-all i m (omega arith) ∙ sym (take-all k m (omega arith)) in
       rw z at e
 
-pub set-put : {old mid new : List ℕ} {p q r : ℕ} (b : ℕ) (ms : List ℕ) → Sized (chainOctets integerElement ms) b → (b ≤ 8192 → Puts old p (headerOctets (identifier 1 17) b) mid q)
+pub set-put : {old mid new : List ℕ} {p q r : ℕ} (b : ℕ) (ms : List ℕ) → Sized (chainOctets integerElement ms) b → (b ≤ extensionBytes → Puts old p (headerOctets (identifier 1 17) b) mid q)
     → Puts mid q (chainOctets integerElement ms) new r → Puts old p (valueElement (nums ms)) new r
 unfolding valueElement
 set-put b ms c e f = around 1 17 b (chainOctets integerElement ms) c e f
@@ -230,7 +231,7 @@ module _ (s : List ℕ) (t : RootOfTrust) {old o₁ o₂ o₃ : List ℕ} {p p�
   unfolding rootContent hashElement pick
   root-plain h = rw (h, append-nil) (joined e₁ (joined e₂ e₃))
 
-pub root-put : {old mid new : List ℕ} {p q r : ℕ} (s : List ℕ) (t : RootOfTrust) (b : ℕ) → Sized (rootContent (rootOf (octetsAt s) t)) b → (b ≤ 8192 → Puts old p (headerOctets (identifier 1 16) b) mid q)
+pub root-put : {old mid new : List ℕ} {p q r : ℕ} (s : List ℕ) (t : RootOfTrust) (b : ℕ) → Sized (rootContent (rootOf (octetsAt s) t)) b → (b ≤ extensionBytes → Puts old p (headerOctets (identifier 1 16) b) mid q)
     → Puts mid q (rootContent (rootOf (octetsAt s) t)) new r → Puts old p (valueElement (trust (rootOf (octetsAt s) t))) new r
 unfolding valueElement
 root-put s t b c e f = around 1 16 b (rootContent (rootOf (octetsAt s) t)) c e f
@@ -253,7 +254,7 @@ module _ (s : List ℕ) (kind : Kind) (value size : ℕ) (old : List ℕ) (p : �
   unfolding valueElement plainValue
   value-octets e h = rw e h
 
-  pub value-null : OneOf (0 ∷ 3 ∷ 5 ∷ []) (tagOf kinds.the-type kind) → (0 ≤ 8192 → Puts old p (headerOctets (identifier 0 5) 0) new q) → Valued
+  pub value-null : OneOf (0 ∷ 3 ∷ 5 ∷ []) (tagOf kinds.the-type kind) → (0 ≤ extensionBytes → Puts old p (headerOctets (identifier 0 5) 0) new q) → Valued
   unfolding valueElement
   value-null o h = rw (plain-null s kind value size o) (element-put 0 5 0 [] refl h (nothing new q))
 
@@ -275,7 +276,7 @@ field-number row k d =
     let e : row .number ≡ rowAt k .number = ap (λ (x : TableRow). x .number) d in
     rw e (small-at rows k (tableRow 0 null 1 0) tt (omega arith))
 
-pub field-put : {old mid new : List ℕ} {p q r : ℕ} (n b : ℕ) (x : Value) → Sized (valueElement x) b → (b ≤ 8192 → Puts old p (headerOctets (identifier 5 n) b) mid q)
+pub field-put : {old mid new : List ℕ} {p q r : ℕ} (n b : ℕ) (x : Value) → Sized (valueElement x) b → (b ≤ extensionBytes → Puts old p (headerOctets (identifier 5 n) b) mid q)
     → Puts mid q (valueElement x) new r → Puts old p (fieldElement (field n x)) new r
 unfolding fieldElement
 field-put n b x c e f = around 5 n b (valueElement x) c e f
@@ -298,12 +299,12 @@ module _ (l : FieldList) (s : List ℕ) where
   unfolding upTo fieldAt pick
   fields-skip k h e = rw (add-one, h, append-nil) e
 
-  pub fields-end : (k : ℕ) {old new : List ℕ} {p q : ℕ} → 42 ≤ k → k ≤ 42 → Listed k old p new q → Puts old p (chainOctets fieldElement (fieldsOf l (octetsAt s))) new q
-  fields-end k h w e = let z : k ≡ 42 = omega arith in rw z at e
+  pub fields-end : (k : ℕ) {old new : List ℕ} {p q : ℕ} → rowCount ≤ k → k ≤ rowCount → Listed k old p new q → Puts old p (chainOctets fieldElement (fieldsOf l (octetsAt s))) new q
+  fields-end k h w e = let z : k ≡ rowCount = omega arith in rw z at e
 
 -- ---- the whole
 
-pub list-put : {old mid new : List ℕ} {p q r : ℕ} (fs : List Field) (b : ℕ) → Sized (chainOctets fieldElement fs) b → (b ≤ 8192 → Puts old p (headerOctets (identifier 1 16) b) mid q)
+pub list-put : {old mid new : List ℕ} {p q r : ℕ} (fs : List Field) (b : ℕ) → Sized (chainOctets fieldElement fs) b → (b ≤ extensionBytes → Puts old p (headerOctets (identifier 1 16) b) mid q)
     → Puts mid q (chainOctets fieldElement fs) new r → Puts old p (listElement fs) new r
 unfolding listElement
 list-put fs b c e f = around 1 16 b (chainOctets fieldElement fs) c e f
@@ -318,7 +319,7 @@ unfolding headOctets
 head-put xs ys challenge unique e₁ e₂ e₃ e₄ = joined e₁ (joined e₂ (joined e₃ e₄))
 
 pub extension-put : {old o₁ o₂ o₃ new : List ℕ} {p p₁ p₂ p₃ q : ℕ} (r : Record) (s : List ℕ) (b : ℕ) → Sized (keyDescription (contentOf r s)) b
-    → (b ≤ 8192 → Puts old p (headerOctets (identifier 1 16) b) o₁ p₁) → Puts o₁ p₁ (Head r s) o₂ p₂ → Puts o₂ p₂ (listElement (fieldsOf (r .software) (octetsAt s))) o₃ p₃
+    → (b ≤ extensionBytes → Puts old p (headerOctets (identifier 1 16) b) o₁ p₁) → Puts o₁ p₁ (Head r s) o₂ p₂ → Puts o₂ p₂ (listElement (fieldsOf (r .software) (octetsAt s))) o₃ p₃
     → Puts o₃ p₃ (listElement (fieldsOf (r .hardware) (octetsAt s))) new q → Puts old p (encode (contentOf r s)) new q
 unfolding encode
 extension-put r s b c e₁ e₂ e₃ e₄ = around 1 16 b (keyDescription (contentOf r s)) c e₁ (rw (eight-is r s) at (joined e₂ (joined e₃ e₄)))

@@ -6,12 +6,13 @@ use borrow.Author.Needs.{needs}
 use Rattle.listing.proofs.Writes.{Listing, list-start, list-more, list-skip, list-end}
 use Rattle.listing.proofs.put_list.Statement.{statement}
 use Rattle.listing.proofs.put_list.Tie as tie
+use Rattle.schema.specs.Table.{rowCount}
 
 abbrev Inv-loop : tie.InvT-loop
-Inv-loop out₀ at word s l p₀ place₀ out p place = (place ≤ 42) × (length out ≡ length out₀) × Listing l s word place out₀ at out p
+Inv-loop out₀ at word s l p₀ place₀ out p place = (place ≤ rowCount) × (length out ≡ length out₀) × Listing l s word place out₀ at out p
 
 abbrev μ-loop : tie.MeasureT-loop
-μ-loop out₀ at word s l p₀ place₀ out p place = 42 - place
+μ-loop out₀ at word s l p₀ place₀ out p place = rowCount - place
 
 loop-holds : tie.Need-loop-holds Inv-loop μ-loop
 loop-holds c = (search needs, refl, search list-start)

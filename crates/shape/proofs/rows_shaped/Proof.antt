@@ -8,12 +8,13 @@ use Rattle.shape.proofs.Shapes.{rows-begin, row-absent, not-held, row-b
 use borrow.Author.Needs.{needs}
 use Rattle.shape.proofs.rows_shaped.Statement.{statement}
 use Rattle.shape.proofs.rows_shaped.Tie as tie
+use Rattle.schema.specs.Table.{rowCount}
 
 abbrev Inv-loop : tie.InvT-loop
 Inv-loop version l k₀ k = allBelow (rowPlain version l) k ≡ true
 
 abbrev μ-loop : tie.MeasureT-loop
-μ-loop version l k₀ k = 42 - k
+μ-loop version l k₀ k = rowCount - k
 
 loop-holds : tie.Need-loop-holds Inv-loop μ-loop
 loop-holds c = search rows-begin

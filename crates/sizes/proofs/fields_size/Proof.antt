@@ -5,12 +5,13 @@ use Rattle.sizes.proofs.Sizing.{Counted, set-value, root-value, plain-v
 use borrow.Author.Needs.{needs}
 use Rattle.sizes.proofs.fields_size.Statement.{statement}
 use Rattle.sizes.proofs.fields_size.Tie as tie
+use Rattle.schema.specs.Table.{rowCount}
 
 abbrev Inv-loop : tie.InvT-loop
-Inv-loop s l n₀ place₀ n place = (place ≤ 42) × Counted l s place n
+Inv-loop s l n₀ place₀ n place = (place ≤ rowCount) × Counted l s place n
 
 abbrev μ-loop : tie.MeasureT-loop
-μ-loop s l n₀ place₀ n place = 42 - place
+μ-loop s l n₀ place₀ n place = rowCount - place
 
 loop-holds : tie.Need-loop-holds Inv-loop μ-loop
 loop-holds c = (search needs, search fields-start)

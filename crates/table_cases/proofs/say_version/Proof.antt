@@ -3,12 +3,13 @@ use Prim.Native.Nat.{_≤_, _-_}
 use borrow.Author.Needs.{needs}
 use Rattle.table_cases.proofs.say_version.Statement.{statement}
 use Rattle.table_cases.proofs.say_version.Tie as tie
+use Rattle.schema.specs.Table.{rowCount}
 
 abbrev Inv-loop : tie.InvT-loop
-Inv-loop version k₀ t5 k = k ≤ 42
+Inv-loop version k₀ t5 k = k ≤ rowCount
 
 abbrev μ-loop : tie.MeasureT-loop
-μ-loop version k₀ t5 k = 42 - k
+μ-loop version k₀ t5 k = rowCount - k
 
 print-decimal-requires : tie.Need-print-decimal-requires Inv-loop μ-loop
 print-decimal-requires c κs = search needs

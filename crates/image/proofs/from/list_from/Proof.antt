@@ -1,6 +1,6 @@
 -- `list_from` meets its contract, part by part. Assumes nothing.
 use lib.ListN.{take}
-use Rattle.image.specs.Image.{setFrom, rootFrom}
+use Rattle.image.specs.Image.{setFrom, rootFromWords}
 use Rattle.image.proofs.Fits.{from-drop, part-long}
 use Rattle.image.proofs.Parts.{list-made}
 use borrow.Author.Needs.{needs}
@@ -105,7 +105,7 @@ returns c =
     (from-drop setFrom w 143 (c .before .before .before .before .before .before .set-from2 .ensures))
     (from-drop setFrom w 160 (c .before .before .before .before .set-from3 .ensures))
     (from-drop setFrom w 177 (c .before .before .set-from4 .ensures))
-    (from-drop rootFrom w 194 (c .root-from .ensures))
+    (from-drop rootFromWords w 194 (c .root-from .ensures))
 
 pub list-from-spec : {M : Type 1} → statement M
 list-from-spec =

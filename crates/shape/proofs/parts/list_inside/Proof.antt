@@ -4,12 +4,13 @@ use Rattle.shape.proofs.Buffer.{SoFar, rows-begin, row-absent, row-outs
 use borrow.Author.Needs.{needs}
 use Rattle.shape.proofs.parts.list_inside.Statement.{statement}
 use Rattle.shape.proofs.parts.list_inside.Tie as tie
+use Rattle.schema.specs.Table.{rowCount}
 
 abbrev Inv-loop : tie.InvT-loop
 Inv-loop len l k₀ k = SoFar l len k
 
 abbrev μ-loop : tie.MeasureT-loop
-μ-loop len l k₀ k = 42 - k
+μ-loop len l k₀ k = rowCount - k
 
 loop-holds : tie.Need-loop-holds Inv-loop μ-loop
 loop-holds c = search rows-begin

@@ -8,12 +8,13 @@ use Rattle.writer.proofs.Puts.{Listed, field-number, fields-start, fiel
 use borrow.Author.Needs.{needs}
 use Rattle.writer.proofs.put.put_fields.Statement.{statement}
 use Rattle.writer.proofs.put.put_fields.Tie as tie
+use Rattle.schema.specs.Table.{rowCount}
 
 abbrev Inv-loop : tie.InvT-loop
-Inv-loop out₀ at s l p₀ place₀ out p place = (place ≤ 42) × (length out ≡ length out₀) × Listed l s place out₀ at out p
+Inv-loop out₀ at s l p₀ place₀ out p place = (place ≤ rowCount) × (length out ≡ length out₀) × Listed l s place out₀ at out p
 
 abbrev μ-loop : tie.MeasureT-loop
-μ-loop out₀ at s l p₀ place₀ out p place = 42 - place
+μ-loop out₀ at s l p₀ place₀ out p place = rowCount - place
 
 loop-holds : tie.Need-loop-holds Inv-loop μ-loop
 loop-holds c = (search needs, refl, search fields-start)
