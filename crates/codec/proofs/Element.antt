@@ -8,12 +8,12 @@ use native.Mathlib.Omega.{arith}
 use lib.ListN.{length, take, drop, length-append, take-append-drop}
 use lib.Seq.{take-append-seam, drop-append-seam, length-take-le}
 use lib.Dec.{T, ltb, eqb, lt→ltb, eqb→eq, eqb-refl}
-use Rattle.answer.specs.Answer.{Answer, got, guard, bind, pick}
+use Rattle.answer.specs.Answer.{Answer, got, guard, pick}
 use Rattle.answer.proofs.Logic.{and-left, and-right, and-both}
 use Rattle.answer.proofs.Answer.{guard-yes, guard-case, got-inj, bind-got, bind-case}
 use Rattle.codec.specs.Octets.{Octets, Taken, taken}
 use Rattle.codec.specs.Shortest.{lengthOctets}
-use Rattle.codec.specs.Header.{Identifier, identifier, header, readHeader, identifierOctets, identifierGood, lengthGood, headerOctets, elementOctets}
+use Rattle.codec.specs.Header.{Identifier, header, readHeader, identifierOctets, identifierGood, lengthGood, headerOctets, elementOctets}
 use Rattle.codec.specs.Element.{element, tagged, exactly, both, under}
 use Rattle.codec.proofs.Octets.{octets-left, octets-right, same-taken}
 use Rattle.codec.specs.Codec.{Whole, Front, Inside}

@@ -1,7 +1,7 @@
 -- The laws of the identifier, the length and both: each is read back from its octets, and what is read was written so.
 -- The idea: the three forms of an identifier, and of a length, one equation each. Assumes nothing.
 use mathlib.Core.Path.{_≡_, refl, sym, ap, _∙_}
-use mathlib.Core.Bool.{Bool, true, _&&_}
+use mathlib.Core.Bool.{true}
 use mathlib.Core.List.{List, [], _∷_, _++_, append-assoc}
 use Prim.Native.Nat.{ℕ, _+_, _*_, _/_, _%_, _<_, _≤_}
 use native.Mathlib.Omega.{arith}
@@ -9,7 +9,7 @@ use lib.ListN.{length, length-append}
 use lib.Dec.{T, leb, ltb, eqb, leb→le, le→leb, lt→ltb, ltb→lt, eqb→eq}
 use lib.Arith.{le→nltb}
 use borrow.Author.Tests.{eq-eqb, ne-eqb}
-use Rattle.answer.specs.Answer.{Answer, got, refused, guard, bind, pick}
+use Rattle.answer.specs.Answer.{Answer, got, refused, pick}
 use Rattle.answer.proofs.Logic.{by-le, and-right, and-both, not-equal}
 use Rattle.answer.proofs.Answer.{guard-yes, guard-case, got-inj, refused-got, pick-yes, pick-no, pick-case, bind-got, bind-case}
 use Rattle.codec.specs.Octets.{Octets, Taken, taken, octet}

@@ -1,16 +1,16 @@
 -- The laws of an INTEGER's content: its shortest octets, and no others, are read as the number. Assumes nothing.
 use mathlib.Core.Path.{_≡_, refl, sym, ap, _∙_}
-use mathlib.Core.Bool.{Bool, not, _&&_}
+use mathlib.Core.Bool.{not, _&&_}
 use mathlib.Core.List.{List, [], _∷_}
 use Prim.Native.Nat.{ℕ, zero, suc, _+_, _*_, _/_, _%_, _^_, _<_, _≤_}
 use native.Mathlib.Omega.{arith}
 use native.Mathlib.Nat.{div-lt-iff-lt-mul, mul-le-mul-right, zero-add}
 use lib.ListN.{length}
-use lib.Dec.{T, leb, ltb, eqb, leb→le, le→leb, lt→ltb, ltb→lt, not-T, T-not, eqb→eq}
+use lib.Dec.{leb, ltb, eqb, leb→le, le→leb, lt→ltb, ltb→lt, not-T, T-not, eqb→eq}
 use mir.Facts.{yes-eqb}
 use lib.Arith.{digits-lt}
 use lib.Pow.{pow-pos, pow-mono, pow-add, shr-lt}
-use Rattle.answer.specs.Answer.{Answer, got, guard}
+use Rattle.answer.specs.Answer.{got}
 use Rattle.answer.proofs.Logic.{by-le, and-left, and-right, and-both}
 use Rattle.answer.proofs.Answer.{guard-yes, guard-case, got-inj, refused-got}
 use Rattle.codec.specs.Octets.{Octets}

@@ -1,13 +1,12 @@
 -- What is read of octets that stand in s has a property, where each content has it: one law a combinator. Assumes nothing.
-use mathlib.Core.Path.{_≡_, refl, sym, ap, _∙_}
-use mathlib.Core.Bool.{Bool, true, false, _&&_}
+use mathlib.Core.Path.{_≡_, refl, _∙_}
+use mathlib.Core.Bool.{Bool}
 use mathlib.Core.List.{List, [], _∷_}
 use Prim.Native.Nat.{ℕ, zero, suc}
-use lib.Dec.{ltb, eqb}
 use lib.ListN.{length, take}
-use Rattle.answer.specs.Answer.{Answer, got, refused, guard, bind, mapAnswer}
+use Rattle.answer.specs.Answer.{Answer, got, mapAnswer}
 use Rattle.answer.proofs.Answer.{got-inj, refused-got, guard-case, bind-case}
-use Rattle.codec.specs.Octets.{Taken, taken, mapTaken}
+use Rattle.codec.specs.Octets.{Taken, mapTaken}
 use Rattle.codec.specs.Header.{Identifier}
 use Rattle.codec.specs.Element.{element, tagged, exactly, both, chainFuel, chain, under}
 use Rattle.codec.specs.Codec.{Front}

@@ -4,7 +4,7 @@ use mathlib.Core.List.{List, [], _∷_, _++_}
 use Prim.Native.Nat.{ℕ, _+_, _<_}
 use Rattle.answer.specs.Answer.{Answer, got}
 use Rattle.answer.proofs.Answer.{refused-got}
-use Rattle.codec.specs.Octets.{Octets, Taken, taken, octet}
+use Rattle.codec.specs.Octets.{Octets, taken, octet}
 
 pub octets-left : (xs ys : List ℕ) → Octets (xs ++ ys) → Octets xs
 octets-left [] ys o = tt

@@ -1,21 +1,21 @@
 -- Which refusals a reader can give over elements that the first pass took: every header is then in order, so that only the
 -- reader's own numbers are left, and a chain never runs out of turns. One law a combinator. Assumes nothing.
 use mathlib.Core.Path.{_≡_, refl, sym, ap, _∙_}
-use mathlib.Core.Bool.{Bool, true, false, not, _&&_}
+use mathlib.Core.Bool.{Bool, _&&_}
 use mathlib.Core.List.{List, [], _∷_, _++_, append-nil}
 use Prim.Native.Nat.{ℕ, zero, suc, _+_, _<_, _≤_}
 use native.Mathlib.Omega.{arith}
-use lib.Dec.{T, ltb, eqb, lt→ltb, ltb→lt, eqb→eq}
-use lib.ListN.{length, take, drop, length-append}
+use lib.Dec.{T, eqb, lt→ltb, ltb→lt, eqb→eq}
+use lib.ListN.{length, length-append}
 use lib.Seq.{take-append-seam, drop-append-seam}
 use Rattle.answer.specs.Answer.{Answer, got, refused, guard, bind}
 use Rattle.answer.proofs.Logic.{and-left}
 use Rattle.answer.proofs.Answer.{got-inj, refused-got, bind-got, bind-case, bind-refuses, guard-yes, guard-case, guard-refuses}
 use Rattle.codec.specs.Octets.{Taken, taken}
-use Rattle.codec.specs.Header.{Identifier, holds, Header, header, readHeader, headerOctets, elementOctets}
+use Rattle.codec.specs.Header.{Identifier, holds, header, readHeader, headerOctets, elementOctets}
 use Rattle.codec.specs.Element.{element, tagged, exactly, both, chainFuel, chain, under}
 use Rattle.codec.specs.Tree.{Node, Nodes, node, none, and, octetsOf, runOctets, Each, Der}
-use Rattle.codec.proofs.Element.{element-header, element-length, element-long}
+use Rattle.codec.proofs.Element.{element-header, element-long}
 
 -- octets that are elements one after the other, each in DER
 pub record Run (bs : List ℕ) : Type 0 where

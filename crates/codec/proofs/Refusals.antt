@@ -1,16 +1,14 @@
 -- Which refusals the first pass can give: 1 to 7, of which a header's are 2, 3 and 4. Assumes nothing.
 use mathlib.Core.Path.{_≡_, refl, sym}
-use mathlib.Core.Bool.{Bool, true, false}
 use mathlib.Core.List.{List, [], _∷_}
-use Prim.Native.Nat.{ℕ, zero, suc, _+_, _≤_}
+use Prim.Native.Nat.{ℕ, zero, suc, _+_}
 use native.Mathlib.Omega.{arith}
-use lib.ListN.{length, take}
-use Rattle.answer.specs.Answer.{Answer, got, refused, guard, bind, pick}
+use Rattle.answer.specs.Answer.{Answer, got, refused}
 use Rattle.answer.proofs.Answer.{refused-got, pick-case, bind-refuses, guard-refuses}
-use Rattle.codec.specs.Octets.{Taken, octet}
-use Rattle.codec.specs.Header.{readHighNumber, readIdentifier, readLength, Header, reported, readHeader}
+use Rattle.codec.specs.Octets.{octet}
+use Rattle.codec.specs.Header.{readHighNumber, readIdentifier, readLength, reported, readHeader}
 use Rattle.codec.specs.Element.{exactly}
-use Rattle.codec.specs.Tree.{Node, Nodes, nodes, run, walkElement, firstPass}
+use Rattle.codec.specs.Tree.{nodes, run, walkElement, firstPass}
 use Rattle.codec.specs.Statements.{FirstPassRefuses}
 use Rattle.codec.proofs.Ranges.{InRange}
 

@@ -1,19 +1,18 @@
 -- The first pass gives a tree exactly when the bytes are that tree's DER within the limits (`first-pass-exactly`); so
 -- the count is at most the limit, and one tree stands over accepted bytes. By induction on the depth. Assumes nothing.
-use mathlib.Core.Logic.{_↔_}
 use mathlib.Core.Path.{_≡_, refl, sym, ap, _∙_}
-use mathlib.Core.Bool.{Bool, true, false, not}
-use mathlib.Core.List.{List, [], _∷_, _++_, append-assoc, append-nil}
+use mathlib.Core.Bool.{true, not}
+use mathlib.Core.List.{List, [], _∷_, _++_, append-nil}
 use Prim.Native.Nat.{ℕ, zero, suc, _+_, _<_, _≤_}
 use native.Mathlib.Omega.{arith}
-use native.Mathlib.Nat.{add-zero, le-refl}
+use native.Mathlib.Nat.{le-refl}
 use lib.ListN.{length, take, drop, length-append, take-append-drop}
 use lib.Seq.{take-append-seam, drop-append-seam, length-take-le}
-use lib.Dec.{T, ltb, leb, ltb→lt, lt→ltb, leb→le, le→leb}
-use Rattle.answer.specs.Answer.{Answer, got, refused, guard, bind, pick}
+use lib.Dec.{T, ltb→lt, lt→ltb, leb→le, le→leb}
+use Rattle.answer.specs.Answer.{Answer, got, refused, bind, pick}
 use Rattle.answer.proofs.Answer.{guard-yes, guard-case, bind-got, bind-case, pick-yes, pick-no, pick-case, got-inj, refused-got}
 use Rattle.codec.specs.Octets.{Octets, Taken, taken}
-use Rattle.codec.specs.Header.{Identifier, holds, Header, header, headerOctets, elementOctets}
+use Rattle.codec.specs.Header.{Identifier, holds, Header, headerOctets}
 use Rattle.codec.specs.Element.{exactly}
 use Rattle.codec.specs.Tree.{Node, Nodes, node, none, and, nodes, allNodes, run, walkElement, firstPass, octetsOf, runOctets, Each, Der, Within}
 use Rattle.codec.specs.Statements.{FirstPassExactly, CountFew, RunEnough}

@@ -1,9 +1,9 @@
 -- What is built of elements is accepted by the first pass, with its count: one law for each way of building (a primitive
 -- element, one around a run, one after the other, a chain), each by giving the tree. Assumes nothing.
-use mathlib.Core.Path.{_≡_, refl, sym, ap, _∙_}
-use mathlib.Core.Bool.{Bool, not, _&&_}
+use mathlib.Core.Path.{_≡_, refl, ap}
+use mathlib.Core.Bool.{Bool, not}
 use mathlib.Core.List.{List, [], _∷_, _++_, append-assoc, append-nil}
-use Prim.Native.Nat.{ℕ, suc, _+_, _<_, _≤_}
+use Prim.Native.Nat.{ℕ, suc, _+_, _≤_}
 use native.Mathlib.Omega.{arith}
 use native.Mathlib.Nat.{add-assoc, add-zero, zero-add}
 use lib.ListN.{length}
@@ -12,7 +12,7 @@ use Rattle.answer.specs.Answer.{got}
 use Rattle.answer.proofs.Logic.{and-left, and-right}
 use Rattle.codec.specs.Header.{Identifier, holds, identifierGood, lengthGood, headerOctets, elementOctets}
 use Rattle.codec.specs.Element.{chainOctets, chainGood, total}
-use Rattle.codec.specs.Tree.{Node, Nodes, node, none, and, nodes, allNodes, firstPass, octetsOf, runOctets, Each, Der, Within}
+use Rattle.codec.specs.Tree.{Node, Nodes, node, none, and, nodes, allNodes, firstPass, octetsOf, runOctets, Each, Der}
 use Rattle.codec.proofs.Tree.{first-pass-back}
 
 -- e is one element, at most d levels deep, of k elements in all, at whatever place it stands

@@ -1,6 +1,6 @@
 -- Readers of whole elements, and their composition: what a schema is made of. Each is the mirror of a piece of an
 -- encoding; proofs/ has one law a combinator. A schema's own refusal numbers are parameters.
-use mathlib.Core.Bool.{Bool, true, false, _&&_}
+use mathlib.Core.Bool.{Bool, true, _&&_}
 use mathlib.Core.List.{List, [], _∷_, _++_}
 use Prim.Native.Nat.{ℕ, zero, suc, _+_}
 use lib.ListN.{length, take, drop}

@@ -1,6 +1,6 @@
 -- Document 01, "DER as walked": the identifier and the length of an element, read at a place and written.
 -- A header reader's own refusal names the octet at fault; `reportedPlace` alone decides which place is reported.
-use mathlib.Core.Bool.{Bool, true, false, _&&_}
+use mathlib.Core.Bool.{Bool, _&&_}
 use mathlib.Core.List.{List, [], _∷_, _++_}
 use Prim.Native.Nat.{ℕ, _+_, _*_, _/_, _%_}
 use lib.ListN.{length}

@@ -1,5 +1,5 @@
 -- The content of an INTEGER or ENUMERATED: shortest, not negative, within its top (document 01, "KeyDescription").
-use mathlib.Core.Bool.{Bool, true, false, not, _&&_}
+use mathlib.Core.Bool.{not, _&&_}
 use mathlib.Core.List.{List, [], _∷_}
 use Prim.Native.Nat.{ℕ}
 use lib.Dec.{ltb, leb, eqb}

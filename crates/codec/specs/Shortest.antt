@@ -1,6 +1,5 @@
 -- Shortest numbers, over every width: significant bits, and octets from the highest to the lowest. Document 01:
 -- "Integer and length sizes come from how many significant bits the number has".
-use mathlib.Core.Bool.{Bool, true, false}
 use mathlib.Core.List.{List, [], _∷_}
 use Prim.Native.Nat.{ℕ, zero, suc, _+_, _-_, _*_, _/_, _%_, _^_}
 use lib.ListN.{length}

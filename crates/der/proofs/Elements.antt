@@ -1,7 +1,7 @@
 -- What the walk answers, in plain variables: one law for each answer of an element, of a run and of the whole.
 -- The count goes along in the code and is added up in the tree (`shift`). Assumes nothing.
 use mathlib.Core.Path.{_≡_, refl, ap, sym, subst, _∙_}
-use mathlib.Core.Bool.{Bool, true, false}
+use mathlib.Core.Bool.{true, false}
 use mathlib.Core.List.{List, []}
 use Prim.Native.Nat.{ℕ, zero, suc, _+_, _-_, _%_, _<_, _≤_}
 use native.Mathlib.Nat.{add-assoc, add-zero, zero-add, le-refl}
@@ -16,7 +16,7 @@ use Rattle.answer.proofs.Answer.{got-inj, refused-got, refused-as}
 use Rattle.codec.specs.Octets.{Taken, taken}
 use Rattle.codec.specs.Header.{Identifier, identifier, holds, readHeader}
 use Rattle.codec.specs.Element.{exactly}
-use Rattle.codec.specs.Tree.{Node, Nodes, node, none, and, nodes, allNodes, run, walkElement, firstPass}
+use Rattle.codec.specs.Tree.{Node, Nodes, node, and, nodes, allNodes, run, walkElement, firstPass}
 use Rattle.codec.proofs.Octets.{same-taken}
 use Rattle.codec.proofs.Tree.{run-none, run-step}
 use Rattle.der.specs.Header.{ofHeader, HeaderInside}

@@ -9,7 +9,7 @@ use lib.ListN.{length, getD, take}
 use lib.Seq.{slice, length-slice, take-length, take-all}
 use lib.Bits.{bitAnd, bitOr}
 use borrow.Author.Tests.{le-leb, lt-leb}
-use Rattle.answer.specs.Answer.{Answer, got, refused, guard, bind, pick}
+use Rattle.answer.specs.Answer.{got, refused, guard, bind, pick}
 use Rattle.codec.specs.Octets.{taken}
 use Rattle.codec.specs.Header.{identifier, header, readHighNumber, readIdentifier, readLength, readHeader, reported, reportedPlace}
 use Rattle.der.specs.Header.{ofIdentifier, ofLength, ofHeader, IdentifierInside, LengthInside, HeaderInside}

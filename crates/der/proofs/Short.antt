@@ -16,7 +16,7 @@ use Rattle.der.specs.declared.header.Identifier.{Identifier}
 use Rattle.der.specs.declared.header.Length.{Length}
 use Rattle.der.specs.declared.header.Short.{Short}
 use Rattle.der.specs.declared.header.Extent.{Extent}
-use Rattle.der.proofs.Bits.{low5, tests}
+use Rattle.der.proofs.Bits.{tests}
 use Rattle.der.proofs.Headers.{length-at, number-high, identifier-high}
 
 -- ---- an identifier of one octet, and of three

@@ -246,7 +246,7 @@ pub(crate) fn header_at(s: &[u8], at: usize, end: usize) -> Header
 }
 
 // The holder's end, or that of s where it would lie past it.
-fn clipped(s: &[u8], end: usize) -> usize
+pub fn clipped(s: &[u8], end: usize) -> usize
     ensures inside { λ r. ⌜ (r ≤ end) × (r ≤ length (now (s .entry))) ⌝ }
     ensures same { λ r. ⌜ take r (now (s .entry)) ≡ take end (now (s .entry)) ⌝ }
 {

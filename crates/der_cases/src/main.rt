@@ -9,7 +9,7 @@ use der::walk::Limits;
 use der::walk::Walked;
 use der_write::Put;
 use libc::STDOUT_FILENO;
-ghost use Prim.Native.Nat.{_+_, _<_, _≤_};
+ghost use Prim.Native.Nat.{_<_, _≤_};
 
 fn wide(x: u8) -> usize
     ensures { λ r. ⌜ r < 256 ⌝ }

@@ -1,13 +1,12 @@
 -- Sizes of identifiers, lengths and INTEGERs from significant bits, as the code finds them. Assumes nothing.
-use mathlib.Core.Path.{_≡_, refl, sym, ap, _∙_}
-use mathlib.Core.List.{List, _∷_}
-use Prim.Native.Nat.{ℕ, _+_, _-_, _/_, _^_, _<_, _≤_}
+use mathlib.Core.Path.{_≡_, refl}
+use Prim.Native.Nat.{ℕ, _+_, _-_, _/_, _<_, _≤_}
 use native.Mathlib.Omega.{arith}
 use mir.Val.{Fits}
 use mir.Syntax.{w64}
-use lib.Count.{leadingZeros, leading-le}
+use lib.Count.{leadingZeros}
 use lib.ListN.{length}
-use Rattle.codec.specs.Shortest.{bits, integerSize, lengthSize, lengthOctets, lowOctets}
+use Rattle.codec.specs.Shortest.{bits, integerSize, lengthSize, lengthOctets}
 use Rattle.codec.specs.Header.{identifier, identifierOctets}
 use Rattle.codec.proofs.Shortest.{bits-word, length-short, length-long, length-lowOctets}
 use Rattle.codec.proofs.Header.{one-octet, two-octets, three-octets}

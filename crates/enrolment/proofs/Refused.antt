@@ -8,12 +8,12 @@ use mathlib.Core.List.{List, [], _∷_}
 use Prim.Native.Nat.{ℕ, suc, _<_, _≤_}
 use native.Mathlib.Omega.{arith}
 use lib.ListN.{length, getD}
-use lib.Dec.{T, eqb, leb, eqb→eq, leb→le, T-not, not-T}
+use lib.Dec.{T, eqb, eqb→eq, T-not, not-T}
 use Rattle.answer.specs.Answer.{Answer, got, refused, guard, pick}
 use Rattle.answer.specs.Sentences.{Says, SaysFirst}
 use Rattle.answer.proofs.Sentences.{ascending, says-from}
 use Rattle.answer.proofs.Answer.{refused-got}
-use Rattle.answer.proofs.Logic.{and-left, and-right, by-le, not-equal}
+use Rattle.answer.proofs.Logic.{by-le, not-equal}
 use Rattle.schema.specs.Content.{RootWith, ValueWith, num, trust, FieldWith, Place, placeAt}
 use Rattle.records.specs.Content.{partOf, rootOf, fieldsOf}
 use Rattle.records.specs.Equal.{presentAt}

@@ -1,8 +1,8 @@
 -- What is listed of the reader's answer is what is listed of the definition's; and how much room is always enough.
 -- Assumes nothing.
-use mathlib.Core.Path.{_≡_, refl, sym, subst, ap, _∙_}
+use mathlib.Core.Path.{_≡_, refl, sym, subst, _∙_}
 use mathlib.Core.List.{List}
-use Prim.Native.Nat.{ℕ, _+_, _*_, _<_, _≤_}
+use Prim.Native.Nat.{ℕ, _<_, _≤_}
 use native.Mathlib.Omega.{arith}
 use borrow.Author.Tests.{le-leb, lt-leb}
 use lib.ListN.{length, getD}
@@ -19,7 +19,7 @@ use Rattle.listing.specs.Text.{listing, contentText, refusalText}
 use Rattle.records.specs.declared.Record.{Record}
 use Rattle.reader.specs.declared.Outcome.{Outcome}
 use Rattle.reader.specs.Reading.{Reads}
-use Rattle.reader.proofs.Spelled.{octets-all}
+use Rattle.contents.proofs.Spelled.{octets-all}
 use Rattle.schema.proofs.Places.{octets-at-places}
 use Rattle.records.proofs.PlacesRead.{places-read}
 use Rattle.records.specs.Content.{contentOf}

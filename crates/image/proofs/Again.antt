@@ -1,11 +1,7 @@
 -- Image, record, image: where the words are those of a record, not one of them is lost. Assumes nothing.
-use mathlib.Core.Path.{_≡_, ap, sym, _∙_}
-use mathlib.Core.List.{List, _++_}
-use Prim.Native.Nat.{ℕ}
-use lib.ListN.{take}
+use mathlib.Core.Path.{ap, sym, _∙_}
 use lib.Seq.{take-at}
-use Rattle.records.specs.declared.Record.{Record}
-use Rattle.image.specs.Image.{imageOf, recordOf}
+use Rattle.image.specs.Image.{imageOf}
 use Rattle.image.specs.Statements.{ImageAgain}
 use Rattle.image.proofs.Puts.{image-length}
 use Rattle.image.proofs.RoundTrip.{record-back}

@@ -1,8 +1,8 @@
 -- What is not looked at does not matter: images that agree have words that fit alike, and records that are alike. Each part
 -- of a list is taken from its words. Assumes nothing.
 use mathlib.Core.Path.{_≡_, refl, sym, ap, _∙_}
-use mathlib.Core.Bool.{Bool, true, false, _&&_}
-use mathlib.Core.List.{List, map}
+use mathlib.Core.Bool.{Bool, true, false}
+use mathlib.Core.List.{List}
 use Prim.Native.Nat.{ℕ, _+_, _<_, _≤_}
 use native.Mathlib.Omega.{arith}
 use lib.ListN.{length, getD, take, drop, length-map, length-drop, List·getD-map}
@@ -13,14 +13,11 @@ use Rattle.schema.specs.Table.{Kind, set, number32, number64, null, octets, roo
 use Rattle.records.specs.Rows.{allBelow}
 use Rattle.schema.specs.Content.{placeAt}
 use Rattle.records.proofs.Rowwise.{all-agree}
-use Rattle.records.specs.declared.NumberSet.{NumberSet}
-use Rattle.records.specs.declared.FieldList.{FieldList}
-use Rattle.records.specs.declared.Record.{Record}
 use Rattle.records.specs.Content.{setAt}
 use Rattle.records.specs.Equal.{presentAt}
 use Rattle.image.specs.Image.{isSet, low, setFrom, rootFromWords, listFrom, recordOf, narrowAt, flagAt, slotsBelow, setFits, rootFits, listFits, wordsFit}
-use Rattle.image.specs.Agree.{Same, SameSet, SameRoot, setPlace, SameValue, SameRowWords, Agree}
-use Rattle.image.specs.Statements.{SameAnswers, NotLookedAt}
+use Rattle.image.specs.Agree.{SameSet, SameRoot, setPlace, SameValue, SameRowWords, Agree}
+use Rattle.image.specs.Statements.{NotLookedAt}
 use Rattle.image.proofs.Fits.{list-tests}
 use Rattle.image.proofs.RoundTrip.{slots-few, slots-count}
 use Rattle.image.proofs.Alike.{AlikeSet, AlikeRoot, AlikeValue, AlikeRow, AlikeRecord, pick-agree, record-shaped, record-inside, record-same}

@@ -2,19 +2,17 @@
 -- same octet fields are asked for. Row by row, by kind. Assumes nothing.
 use mathlib.Core.Path.{_≡_, refl, sym, ap, _∙_}
 use mathlib.Core.Bool.{Bool, true, false, _&&_, true≢false}
-use mathlib.Core.Option.{Option, none, some}
-use mathlib.Core.List.{List, [], _∷_}
+use mathlib.Core.Option.{none, some}
+use mathlib.Core.List.{[], _∷_}
 use Prim.Native.Nat.{ℕ, zero, suc, _<_, _≤_}
 use native.Mathlib.Omega.{arith}
 use lib.ListN.{length, getD, take}
 use lib.Seq.{length-take-le, getD-take, ext-getD}
-use lib.Dec.{leb, ltb}
-use borrow.Author.Tests.{le-leb, lt-leb}
-use Rattle.answer.specs.Answer.{Answer, got, refused, guard, pick}
+use borrow.Author.Tests.{lt-leb}
+use Rattle.answer.specs.Answer.{pick}
 use Rattle.answer.proofs.Logic.{by-le}
-use Rattle.schema.specs.Table.{Kind, set, number32, number64, null, octets, root, rows, rowAt, indexOf, heldIn, top32}
-use Rattle.schema.specs.Content.{ValueWith, num, nul, oct, nums, trust, field}
-use Rattle.records.specs.Rows.{allBelow}
+use Rattle.schema.specs.Table.{Kind, set, number32, number64, null, octets, root, rowAt, heldIn}
+use Rattle.schema.specs.Content.{ValueWith, num, nums, trust, field}
 use Rattle.records.proofs.Rowwise.{all-agree}
 use Rattle.records.proofs.UpTo.{upTo-agree}
 use Rattle.records.specs.declared.Part.{Part}
@@ -23,7 +21,7 @@ use Rattle.records.specs.declared.RootOfTrust.{RootOfTrust}
 use Rattle.records.specs.declared.FieldList.{FieldList}
 use Rattle.records.specs.declared.Record.{Record}
 use Rattle.records.specs.Content.{membersOf, rootOf, setAt, valueAt, fieldAt, fieldsOf, contentWith}
-use Rattle.records.specs.Equal.{presentAt, contentAt}
+use Rattle.records.specs.Equal.{presentAt}
 use Rattle.records.specs.Shape.{memberShaped, setShaped, rootShaped, valueShaped, rowShaped, listShaped, wellShapedRecord}
 use Rattle.records.specs.Parts.{partInside, rootInside, contentInside, rowInside, listInside, partsInside}
 

@@ -12,7 +12,7 @@ use Rattle.answer.specs.Answer.{pick}
 use Rattle.schema.specs.Table.{top32, rows, indexOf}
 use Rattle.image.specs.Image.{setFits, rootFits, listFits, wordsFit, flagAt, narrowAt}
 use Rattle.records.specs.Rows.{allBelow}
-use Rattle.records.proofs.Rowwise.{both-true, all-none, all-at, all-more, all-fewer, all-fails}
+use Rattle.records.proofs.Rowwise.{all-none, all-at, all-more, all-fewer, all-fails}
 
 -- the first k words are at most top
 pub record Passed (w : List ℕ) (top n k : ℕ) : Type 0 where

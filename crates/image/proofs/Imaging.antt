@@ -6,7 +6,7 @@ use Prim.Native.Nat.{ℕ, _<_, _≤_}
 use native.Mathlib.Omega.{arith}
 use lib.ListN.{length}
 use borrow.Author.Tests.{le-leb, lt-leb, eq-eqb, ne-eqb, not-true, not-false}
-use Rattle.answer.specs.Answer.{Answer, got, refused, guard, pick}
+use Rattle.answer.specs.Answer.{got, refused, guard, pick}
 use Rattle.answer.specs.Refusal.{illShaped, shortImage}
 use Rattle.codec.specs.Octets.{splice}
 use Rattle.records.specs.declared.Record.{Record}

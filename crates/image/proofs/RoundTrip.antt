@@ -20,9 +20,9 @@ use Rattle.records.specs.declared.RootOfTrust.{RootOfTrust}
 use Rattle.records.specs.declared.FieldList.{FieldList}
 use Rattle.records.specs.declared.Record.{Record}
 use Rattle.image.specs.Image.{flagWord, isSet, low, slotsBelow, setWords, rootWords, setsWords, listWords, headWords, imageOf, setFrom, rootFromWords, listFrom, recordOf, flagAt, narrowAt, setFits, rootFits, listFits, wordsFit}
-use Rattle.image.specs.Whole.{WholeMembers, WholeSets, WholeList, WholeHead, WholeRecord}
+use Rattle.image.specs.Whole.{WholeMembers, WholeList, WholeHead, WholeRecord}
 use Rattle.image.specs.Statements.{RecordBack}
-use Rattle.image.proofs.Parts.{set-made, root-made, list-made, record-made}
+use Rattle.image.proofs.Parts.{list-made, record-made}
 use Rattle.image.proofs.Puts.{set-length, list-length}
 use Rattle.image.proofs.Fits.{all-at-most, list-tests}
 

@@ -1,7 +1,6 @@
 -- What is proved of images and records. Read RecordBack first, then NotLookedAt. Each is proved under its own name, in
 -- proofs/RoundTrip.antt, Again.antt and Agree.antt.
 use mathlib.Core.Path.{_≡_}
-use mathlib.Core.Bool.{Bool}
 use mathlib.Core.List.{List, _++_}
 use Prim.Native.Nat.{ℕ}
 use lib.ListN.{take}

@@ -6,7 +6,6 @@ use Prim.Native.Nat.{ℕ, _≤_}
 use lib.ListN.{length}
 use Rattle.schema.specs.Table.{top32}
 use Rattle.records.specs.Rows.{allBelow}
-use Rattle.records.specs.declared.NumberSet.{NumberSet}
 use Rattle.records.specs.declared.FieldList.{FieldList}
 use Rattle.records.specs.declared.Record.{Record}
 use Rattle.image.specs.Image.{narrowAt}

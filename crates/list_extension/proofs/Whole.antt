@@ -1,16 +1,14 @@
 -- A text of 491,520 octets is never short, so that what is shown is the whole listing. Assumes nothing.
-use mathlib.Core.Path.{_≡_, refl, sym, ap, subst, _∙_}
-use mathlib.Core.List.{List, _++_}
+use mathlib.Core.Path.{_≡_, sym, ap, subst, _∙_}
+use mathlib.Core.List.{List}
 use Prim.Native.Nat.{ℕ, _+_, _≤_}
 use native.Mathlib.Omega.{arith}
 use lib.ListN.{length, drop, length-append}
 use Rattle.answer.specs.Answer.{Answer, got, refused}
 use Rattle.answer.specs.Refusal.{outputShort}
 use Rattle.codec.specs.Octets.{splice, left}
-use Rattle.schema.specs.Decode.{read}
 use Rattle.listing.specs.declared.Listed.{Listed}
 use Rattle.listing.specs.Room.{ofListed}
-use Rattle.listing.specs.Text.{listing}
 use Rattle.extension_text.specs.Bytes.{extensionListed, extensionLeft}
 use Rattle.extension_text.proofs.Said.{listed-whole}
 use Rattle.list_extension.specs.Shown.{shown}

@@ -10,7 +10,7 @@ use mir.Val.{Fits}
 use mir.Syntax.{w64}
 use lib.ListN.{length, take, drop, getD, length-drop, drop-of-length-le}
 use lib.Seq.{take-suc, take-all, take-nil, take-length, length-take-le}
-use borrow.Author.Tests.{ne-eqb, le-leb, lt-leb}
+use borrow.Author.Tests.{le-leb, lt-leb}
 use Rattle.answer.specs.Answer.{got, refused, guard, pick}
 use Rattle.answer.specs.Refusal.{outputShort}
 use Rattle.codec.specs.Octets.{left}

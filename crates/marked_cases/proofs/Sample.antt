@@ -16,7 +16,7 @@ use Rattle.codec.specs.Header.{holds, readHighNumber, readIdentifier, readLengt
 use Rattle.codec.specs.Element.{element, tagged, exactly, both, chainFuel, chain, under}
 use Rattle.codec.specs.Tree.{nodes, run, walkElement, firstPass}
 use Rattle.schema.specs.Table.{rows, knownVersion, heldIn, find, levelTop}
-use Rattle.schema.specs.Decode.{readInteger, readEnumerated, readOctets, nullOf, readNull, readMember, readSet, readValue, rowContent, fieldContent, readField, readList, readVersion, readEight, decodeWith, readWith, read}
+use Rattle.schema.specs.Decode.{readInteger, readEnumerated, readOctets, nullOf, readNull, readMember, readSet, readValue, rowContent, fieldContent, readField, readList, readVersion, readEight, decodeWith, readWith}
 use Rattle.records.specs.Content.{valueAt, fieldAt, upTo}
 use Rattle.records.specs.Fields.{fieldValue}
 use Rattle.records.specs.Made.{isThere, valueWord, sizeWord, orZero, membersIn, rootIn}

@@ -1,30 +1,27 @@
 -- Asking for an octet field by its row, as the code does, is asking for it by its number (`asked-by-number`); and what each
 -- answer means (`asked-exactly`). Assumes nothing.
-use mathlib.Core.Logic.{_↔_}
 use mathlib.Core.Path.{_≡_, refl, sym, ap, _∙_}
 use mathlib.Core.Bool.{Bool, true, false}
 use mathlib.Core.Option.{Option, none, some}
-use mathlib.Core.List.{List}
 use Prim.Native.Nat.{ℕ, _+_, _<_, _≤_}
 use native.Mathlib.Omega.{arith}
-use lib.Dec.{T, leb, leb→le, le→leb}
+use lib.Dec.{leb→le, le→leb}
 use lib.ListN.{getD}
 use borrow.Author.Tests.{lt-leb}
 use Rattle.answer.specs.Answer.{Answer, got, refused, guard, pick}
 use Rattle.answer.specs.Refusal.{illShaped}
 use Rattle.answer.proofs.Logic.{by-le}
-use Rattle.answer.proofs.Answer.{refused-got, guard-yes, guard-case, guard-refuses}
+use Rattle.answer.proofs.Answer.{refused-got, guard-yes, guard-case}
 use Rattle.schema.specs.Table.{Kind, set, number32, number64, null, octets, root, row, rows, rowAt, indexOf, rowCount}
 use Rattle.schema.specs.Content.{ValueWith, num, nul, oct, nums, trust, Place, placeAt}
 use Rattle.schema.proofs.Table.{find-place}
 use Rattle.records.specs.declared.FieldList.{FieldList}
-use Rattle.records.specs.declared.Record.{Record}
 use Rattle.records.specs.Content.{valueAt, fieldsOf}
 use Rattle.records.specs.Fields.{fieldValue}
 use Rattle.records.specs.Parts.{inside}
 use Rattle.octet_fields.specs.AskedRow.{askedIn, askedAt}
 use Rattle.octet_fields.specs.Asked.{listOf, askedOf, askedOctets}
-use Rattle.octet_fields.specs.Statements.{AskedMeans, AskedExactly}
+use Rattle.octet_fields.specs.Statements.{AskedExactly}
 use Rattle.records.proofs.Fields.{place-below, no-row-has, row-value}
 use Rattle.octet_fields.proofs.Asking.{no-row}
 

@@ -1,11 +1,10 @@
 -- The theorems of specs/Statements.antt. What is read was encoded and what is encoded is read back (schema Accepted); equal
 -- records are those of equal contents (records Equal); the rest cites the contracts. Assumes nothing.
-use mathlib.Core.Path.{_≡_, refl, sym, ap, subst, _∙_}
-use mathlib.Core.Bool.{Bool, true, false, _&&_}
+use mathlib.Core.Path.{_≡_, refl, sym, ap, _∙_}
+use mathlib.Core.Bool.{Bool, true, false}
 use mathlib.Core.Logic.{inl, inr}
 use mathlib.Core.List.{List, _++_}
 use Prim.Native.Nat.{ℕ, _≤_, _<_}
-use native.Mathlib.Omega.{arith}
 use native.Mathlib.Nat.{zero-add}
 use lib.ListN.{length, take, drop}
 use lib.Seq.{take-append-seam}
@@ -29,7 +28,6 @@ use Rattle.schema.proofs.Encoded.{encode-octets}
 use Rattle.records.specs.Content.{octetsAt, contentOf}
 use Rattle.records.specs.Shape.{wellShapedRecord}
 use Rattle.records.specs.Parts.{partsInside}
-use Rattle.records.specs.Equal.{Equal}
 use Rattle.records.specs.declared.Record.{Record}
 use Rattle.records.proofs.PlacesRead.{places-read}
 use Rattle.records.proofs.Equal.{equal-content, content-equal}
@@ -40,7 +38,7 @@ use Rattle.reader.proofs.Answered.{same-answer, some-answer}
 use Rattle.writer.specs.declared.Written.{Written}
 use Rattle.writer.specs.Written.{encodingOf, writable, written, ofWritten, Writes}
 use Rattle.one_record.specs.Contracts.{ReadsAs}
-use Rattle.one_record.specs.Statements.{OneAnswer, ReadRefuses, SchemaRefuses, AcceptedExactly, EqualSameBytes, Encodable, EncodingAccepted, ReadsBackEqual, OnlyEncoding, EncodingSmall, WritesJustThat, RefusedUntouched, RefusesInOrder, WriteNumbers, WriteRefuses, WriteOfRead, ReadOfWrite}
+use Rattle.one_record.specs.Statements.{OneAnswer, ReadRefuses, SchemaRefuses, AcceptedExactly, EqualSameBytes, Encodable, EncodingAccepted, ReadsBackEqual, OnlyEncoding, EncodingSmall, WritesJustThat, RefusedUntouched, WriteNumbers, WriteRefuses, WriteOfRead, ReadOfWrite}
 use Rattle.one_record.proofs.ContentOctets.{content-octets}
 use Rattle.codec.specs.Limits.{extensionBytes}
 

@@ -7,7 +7,7 @@ use lib.Dec.{T}
 use Rattle.answer.specs.Answer.{Answer, got, refused}
 use Rattle.answer.proofs.Answer.{got-inj, refused-got}
 use Rattle.codec.specs.Octets.{Octets}
-use Rattle.schema.specs.Content.{Place, placeAt, Places, wellShaped}
+use Rattle.schema.specs.Content.{placeAt, Places, wellShaped}
 use Rattle.schema.specs.Parts.{EachPart}
 use Rattle.schema.specs.Decode.{readPlaces}
 use Rattle.schema.proofs.Inside.{places-shaped, places-inside}

@@ -27,14 +27,14 @@ use Rattle.records.specs.declared.FieldList.{FieldList}
 use Rattle.der.specs.Walk.{extensionLimits, ofWalked, nodeCount}
 use Rattle.der.specs.declared.walk.Limits.{Limits}
 use Rattle.der.specs.declared.walk.Walked.{Walked}
-use Rattle.reader.specs.Element.{openedAs, ofTagged, TaggedInside}
-use Rattle.reader.specs.Head.{heading, readHead, ofHead, HeadInside, listsAfter}
+use Rattle.contents.specs.Element.{openedAs, ofTagged, TaggedInside}
+use Rattle.contents.specs.Head.{heading, readHead, ofHead, HeadInside, listsAfter}
 use Rattle.reader.specs.Eight.{listsFrom, ListsAt, closedStep}
-use Rattle.reader.specs.declared.element.Tagged.{Tagged}
-use Rattle.reader.specs.declared.head.Head.{Head}
-use Rattle.reader.specs.declared.set.Step.{Step}
-use Rattle.reader.proofs.Open.{leaf-no, leaf-is, tagged-inside}
-use Rattle.reader.proofs.Heads.{eight-split}
+use Rattle.contents.specs.declared.element.Tagged.{Tagged}
+use Rattle.contents.specs.declared.head.Head.{Head}
+use Rattle.contents.specs.declared.set.Step.{Step}
+use Rattle.contents.proofs.Open.{leaf-no, leaf-is, tagged-inside}
+use Rattle.contents.proofs.Heads.{eight-split}
 use Rattle.codec.specs.Limits.{extensionBytes, extensionDepth, extensionElements}
 
 pub record-is : (l : FieldList) → l ≡ emptyList

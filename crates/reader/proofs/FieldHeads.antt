@@ -1,28 +1,26 @@
 -- A field, up to its content: one law for each answer. Assumes nothing.
-use mathlib.Core.Path.{_≡_, refl, sym, ap, subst, _∙_}
+use mathlib.Core.Path.{_≡_, refl, sym, ap, _∙_}
 use mathlib.Core.Bool.{Bool, true, false}
-use mathlib.Core.Option.{Option, none, some}
+use mathlib.Core.Option.{some}
 use mathlib.Core.List.{List}
 use Prim.Native.Nat.{ℕ, _<_, _≤_}
 use native.Mathlib.Omega.{arith}
 use lib.ListN.{length}
 use lib.Seq.{slice}
-use lib.Dec.{leb, eqb}
 use borrow.Author.Tests.{le-leb, lt-leb, eq-eqb, ne-eqb}
 use Rattle.answer.specs.Answer.{Answer, got, refused, guard, bind}
-use Rattle.codec.specs.Octets.{Taken, taken}
+use Rattle.codec.specs.Octets.{taken}
 use Rattle.codec.specs.Header.{identifier}
-use Rattle.codec.specs.Element.{element}
 use Rattle.schema.specs.Table.{Row, row, null, rows, rowAt, indexOf, find, heldIn, rowCount}
-use Rattle.schema.specs.Content.{ValueWith, FieldWith, field, Place, placeAt}
+use Rattle.schema.specs.Content.{ValueWith, field, Place}
 use Rattle.schema.specs.Decode.{readValue, rowContent, fieldContent, readField, asPlace}
 use Rattle.schema.specs.Rows.{ofRow}
 use Rattle.schema.specs.declared.Row as code
 use Rattle.schema.proofs.Table.{find-place, find-none}
-use Rattle.reader.specs.Element.{Opened, opened, ofElement, ElementInside}
+use Rattle.contents.specs.Element.{opened, ofElement, ElementInside}
 use Rattle.reader.specs.Fields.{FieldAt}
-use Rattle.reader.specs.declared.element.Element.{Element}
-use Rattle.reader.proofs.Open.{element-open, contentAfter, element-inside}
+use Rattle.contents.specs.declared.element.Element.{Element}
+use Rattle.contents.proofs.Open.{element-open, contentAfter, element-inside}
 
 rows-length : length rows ≡ rowCount
 unfolding rows

@@ -1,25 +1,25 @@
 -- The loop that fills a list: its fields are those read so far, rows not yet reached are absent, and the rest is ahead.
 -- Assumes nothing.
 use mathlib.Core.Path.{_≡_, refl, sym, ap, subst, _∙_}
-use mathlib.Core.Bool.{Bool, true, false}
+use mathlib.Core.Bool.{true}
 use mathlib.Core.List.{List, [], _∷_, _++_}
 use Prim.Native.Nat.{ℕ, _+_, _<_, _≤_}
 use native.Mathlib.Omega.{arith}
-use lib.Dec.{leb, eqb}
+use lib.Dec.{leb}
 use lib.ListN.{length, set}
 use lib.Seq.{slice}
-use borrow.Author.Tests.{eq-eqb, ne-eqb}
+use borrow.Author.Tests.{ne-eqb}
 use denote.Enum.Declared.{tagOf}
 use types.Run.{OneOf}
 use Rattle.records.proofs.Placed.{by-set, by-root}
 use Rattle.answer.specs.Answer.{Answer, got, refused, bind, pick}
 use Rattle.answer.proofs.Logic.{by-le}
-use Rattle.codec.specs.Octets.{Taken, taken}
+use Rattle.codec.specs.Octets.{taken}
 use Rattle.codec.specs.Element.{exactly}
 use Rattle.schema.specs.Table as table
-use Rattle.schema.specs.Table.{Kind, rows, rowAt, rowCount}
+use Rattle.schema.specs.Table.{Kind, rowAt, rowCount}
 use Rattle.schema.specs.Rows.{ofKind, ofRow}
-use Rattle.schema.specs.Content.{ValueWith, FieldWith, field, afterField, Place, placeAt}
+use Rattle.schema.specs.Content.{ValueWith, field, afterField, Place, placeAt}
 use Rattle.schema.specs.Decode.{readSet, readRoot, readValue, readField, readList, asPlace}
 use Rattle.schema.specs.declared.Row as code
 use Rattle.schema.specs.declared.Kind.{Kind as codeKind}
@@ -30,23 +30,25 @@ use Rattle.records.specs.Clear.{usesValue, usesSize}
 use Rattle.records.specs.declared.NumberSet.{NumberSet}
 use Rattle.records.specs.declared.RootOfTrust.{RootOfTrust}
 use Rattle.records.specs.declared.FieldList.{FieldList}
-use Rattle.reader.specs.Content.{Stored, ofStepped, ofPlain, plainContent, contentValue, isPlain, PlainRead}
+use Rattle.contents.specs.Content.{Stored, ofStepped, ofPlain, plainContent, contentValue, isPlain, PlainRead}
 use Rattle.reader.specs.Fields.{FieldAt, FieldOpened}
-use Rattle.reader.specs.Element.{openedAs, ofTagged}
-use Rattle.reader.specs.Set.{PastAt}
+use Rattle.contents.specs.Element.{openedAs, ofTagged}
+use Rattle.contents.specs.Set.{PastAt}
 use Rattle.reader.specs.Lists.{withField, fieldsFrom, ofFields, ofList}
 use Rattle.records.specs.Empty.{emptyList}
-use Rattle.reader.specs.Root.{ofTrust}
-use Rattle.reader.specs.Inside.{StepSlots, ContentKept, PlainIn, PlainKept, RootKept, ListIn}
-use Rattle.reader.specs.declared.element.Tagged.{Tagged}
-use Rattle.reader.proofs.Open.{leaf-no, leaf-is}
-use Rattle.reader.specs.declared.set.Step.{Step}
-use Rattle.reader.specs.declared.root.Root.{Root}
+use Rattle.contents.specs.Root.{ofTrust}
+use Rattle.contents.specs.Kept.{StepSlots, ContentKept, PlainIn, PlainKept, RootKept}
+use Rattle.reader.specs.Inside.{ListIn}
+use Rattle.contents.specs.declared.element.Tagged.{Tagged}
+use Rattle.contents.proofs.Open.{leaf-no, leaf-is}
+use Rattle.contents.specs.declared.set.Step.{Step}
+use Rattle.contents.specs.declared.root.Root.{Root}
 use Rattle.reader.specs.declared.fields.FieldHead.{FieldHead}
-use Rattle.reader.specs.declared.content.Plain.{Plain}
-use Rattle.reader.proofs.Chains.{Ahead, ahead-start, ahead-refused, ahead-more, ahead-end}
-use Rattle.reader.proofs.Contents.{setStored, rootStored, is-plain, plain-row, as-set, as-root}
-use Rattle.reader.proofs.Bounds.{empty-in, stored-in, set-in, root-in}
+use Rattle.contents.specs.declared.content.Plain.{Plain}
+use Rattle.contents.proofs.Chains.{Ahead, ahead-start, ahead-refused, ahead-more, ahead-end}
+use Rattle.contents.proofs.Contents.{setStored, rootStored, is-plain, plain-row, as-set, as-root}
+use Rattle.contents.proofs.Kept.{set-in, root-in}
+use Rattle.reader.proofs.Bounds.{empty-in, stored-in}
 use Rattle.reader.proofs.FieldReads.{field-no, field-at}
 use Rattle.records.proofs.UpTo.{upTo-one}
 use Rattle.reader.proofs.Lists.{stored-same, stored-other, empty-none, empty-fields}

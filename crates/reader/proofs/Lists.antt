@@ -1,30 +1,26 @@
 -- Storing a field: at its row the list then has it, and every other row is as it was; so the list's fields are those
 -- before and the new one, since rows above it are absent. Assumes nothing.
-use mathlib.Core.Path.{_≡_, refl, sym, ap, subst, _∙_}
-use mathlib.Core.Bool.{Bool, true, false, _&&_, _||_}
-use mathlib.Core.List.{List, [], _∷_, _++_, append-assoc, append-nil}
-use Prim.Native.Nat.{ℕ, zero, suc, _+_, _-_, _<_, _≤_}
+use mathlib.Core.Path.{_≡_, refl, sym, _∙_}
+use mathlib.Core.Bool.{true, false}
+use mathlib.Core.List.{List, [], _∷_}
+use Prim.Native.Nat.{ℕ, _<_}
 use native.Mathlib.Omega.{arith}
-use native.Mathlib.Nat.{add-zero, add-suc, zero-add}
-use lib.Dec.{T, eqb, eqb→eq}
-use lib.ListN.{length, getD, set, replicate, length-set, getD-replicate}
-use lib.Seq.{slice, getD-set-same, getD-set-other}
-use borrow.Author.Tests.{eq-eqb, ne-eqb, eqb-true, eqb-false}
-use Rattle.answer.specs.Answer.{Answer, got, refused, pick}
-use Rattle.answer.proofs.Logic.{and-left, and-right}
+use lib.ListN.{set, replicate, length-set, getD-replicate}
+use lib.Seq.{getD-set-same, getD-set-other}
+use borrow.Author.Tests.{ne-eqb}
+use Rattle.answer.specs.Answer.{pick}
 use Rattle.schema.specs.Table as table
-use Rattle.schema.specs.Table.{Kind, number32, number64, null, octets, root, Row, row, rows, rowAt, rowCount}
-use Rattle.schema.specs.Content.{ValueWith, num, nul, oct, nums, trust, FieldWith, field, Place, placeAt}
-use Rattle.schema.proofs.Table.{above}
+use Rattle.schema.specs.Table.{Kind, number32, number64, null, octets, root, rows, rowAt, rowCount}
+use Rattle.schema.specs.Content.{FieldWith, field, Place, placeAt}
 use Rattle.records.proofs.Placed.{by-set, by-root}
 use Rattle.records.proofs.UpTo.{upTo-to}
-use Rattle.records.specs.Content.{membersOf, rootOf, setAt, valueAt, fieldAt, upTo, fieldsOf}
+use Rattle.records.specs.Content.{setAt, valueAt, fieldAt, upTo, fieldsOf}
 use Rattle.records.specs.Clear.{RowsSized}
 use Rattle.records.specs.declared.FieldList.{FieldList}
 use Rattle.records.specs.declared.NumberSet.{NumberSet}
 use Rattle.records.specs.declared.RootOfTrust.{RootOfTrust}
 use Rattle.records.specs.Empty.{emptySet, emptyRoot, emptyList}
-use Rattle.reader.specs.Content.{Stored, contentValue}
+use Rattle.contents.specs.Content.{Stored, contentValue}
 use Rattle.reader.specs.Lists.{withField}
 
 -- ---- a stored field

@@ -16,14 +16,14 @@ use Rattle.records.specs.declared.Record.{Record}
 use Rattle.records.specs.declared.Security.{Security}
 use Rattle.records.specs.declared.Part.{Part}
 use Rattle.records.specs.declared.FieldList.{FieldList}
-use Rattle.reader.specs.Set.{PastInside}
-use Rattle.reader.specs.Content.{ofStepped}
+use Rattle.contents.specs.Set.{PastInside}
+use Rattle.contents.specs.Content.{ofStepped}
 use Rattle.reader.specs.Lists.{ofList}
 use Rattle.reader.specs.Inside.{ListIn}
 use Rattle.reader.specs.Reading.{Reads}
 use Rattle.reader.specs.Eight.{refusedReading, listsFrom, ListsAt, Opens, closedStep}
-use Rattle.reader.specs.declared.set.Step.{Step}
-use Rattle.reader.specs.declared.head.Head.{Head}
+use Rattle.contents.specs.declared.set.Step.{Step}
+use Rattle.contents.specs.declared.head.Head.{Head}
 use Rattle.reader.specs.declared.eight.Opening.{Opening}
 use Rattle.reader.specs.declared.Outcome.{Outcome}
 use Rattle.reader.specs.declared.Reading.{Reading}

@@ -12,9 +12,9 @@ use Rattle.schema.specs.Decode.{eightFrom, readPlaces}
 use Rattle.records.specs.declared.Security.{Security}
 use Rattle.records.specs.declared.Part.{Part}
 use Rattle.records.specs.Empty.{emptyRecord}
-use Rattle.reader.specs.Head.{Heading, heading, listsAfter, HeadInside}
-use Rattle.reader.specs.declared.set.Step.{Step}
-use Rattle.reader.specs.declared.head.Head.{Head}
+use Rattle.contents.specs.Head.{Heading, heading, listsAfter, HeadInside}
+use Rattle.contents.specs.declared.set.Step.{Step}
+use Rattle.contents.specs.declared.head.Head.{Head}
 use Rattle.reader.specs.declared.eight.Opening.{Opening}
 use Rattle.reader.specs.declared.Outcome.{Outcome}
 use Rattle.reader.specs.declared.Reading.{Reading}

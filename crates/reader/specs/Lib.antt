@@ -1,11 +1,5 @@
-pub mod Element
-pub mod Leaf
-pub mod Set
-pub mod Content
-pub mod Root
 pub mod Inside
 pub mod Fields
 pub mod Lists
-pub mod Head
 pub mod Eight
 pub mod Reading

@@ -1,9 +1,9 @@
 -- A list as the code fills it: what an empty one is, and what storing a field leaves.
-use mathlib.Core.Bool.{Bool, true, false}
+use mathlib.Core.Bool.{true}
 use mathlib.Core.List.{List}
 use Prim.Native.Nat.{ℕ}
 use lib.Dec.{eqb}
-use lib.ListN.{set, replicate}
+use lib.ListN.{set}
 use lib.Seq.{slice}
 use Rattle.answer.specs.Answer.{Answer, got, refused, pick}
 use Rattle.codec.specs.Octets.{Taken, taken}
@@ -12,9 +12,8 @@ use Rattle.schema.specs.Content.{FieldWith, Place, placeAt, afterField}
 use Rattle.schema.specs.Decode.{readField, asPlace}
 use Rattle.records.specs.Content.{fieldsOf}
 use Rattle.records.specs.declared.FieldList.{FieldList}
-use Rattle.records.specs.Empty.{emptySet, emptyRoot}
-use Rattle.reader.specs.declared.set.Step.{Step}
-use Rattle.reader.specs.Content.{Stored}
+use Rattle.contents.specs.declared.set.Step.{Step}
+use Rattle.contents.specs.Content.{Stored}
 
 -- the list with row present, its number or part stored; a set and 704 in their own place
 abbrev pub withField : FieldList → ℕ → Stored → FieldList

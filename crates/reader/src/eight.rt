@@ -1,12 +1,12 @@
 // The eight elements of a KeyDescription but for its two lists: what stands before them, and the end after them.
-use crate::element::Tagged;
-use crate::element::open_tagged;
 use crate::fields::empty_list;
-use crate::head::Head;
-use crate::head::read_head;
-use crate::set::Step;
 use answer::SPARE_BYTES;
 use answer::WRONG_ELEMENT;
+use contents::element::Tagged;
+use contents::element::open_tagged;
+use contents::head::Head;
+use contents::head::read_head;
+use contents::set::Step;
 use der::walk::Limits;
 use der::walk::Walked;
 use records::Part;

@@ -1,19 +1,13 @@
 // The schema pass: what an extension says, read into a record (document 01, "KeyDescription", refusals 8 to 14).
-mod content;
 mod eight;
-mod element;
 mod fields;
-mod head;
-mod leaf;
-mod root;
-mod set;
 
 use crate::eight::Opening;
 use crate::eight::closed;
 pub use crate::eight::empty_record;
 use crate::eight::read_opening;
 use crate::fields::read_list;
-use crate::set::Step;
+use contents::set::Step;
 use records::Record;
 ghost use mathlib.Core.Path.{_≡_};
 ghost use Rattle.reader.specs.Reading.{Reads};

@@ -1,14 +1,14 @@
 -- The other way round: a record that says a well-shaped content is well-shaped, where its sets are within their slots;
 -- and its parts are inside where each octet row's and each root of trust's are. Assumes nothing.
-use mathlib.Core.Path.{_≡_, refl, sym}
+use mathlib.Core.Path.{_≡_, refl}
 use mathlib.Core.Bool.{Bool, true, false, _&&_}
 use mathlib.Core.Option.{none, some}
 use mathlib.Core.List.{List, [], _∷_, _++_}
 use Prim.Native.Nat.{ℕ, zero, suc, _+_, _<_, _≤_}
 use native.Mathlib.Omega.{arith}
 use native.Mathlib.Numerals.{add-one}
-use lib.Dec.{T, leb, ltb, eqb, leb→le, le→leb, ltb→lt, lt→ltb}
-use lib.ListN.{length, getD, take, drop}
+use lib.Dec.{T, leb, ltb, eqb, leb→le, le→leb, lt→ltb}
+use lib.ListN.{length, getD, take}
 use Rattle.answer.specs.Answer.{pick}
 use Rattle.answer.proofs.Logic.{and-left, and-right, and-both, by-le}
 use Rattle.codec.specs.Element.{chainGood}

@@ -4,20 +4,20 @@ use mathlib.Core.Path.{_≡_, refl, sym, ap, _∙_}
 use mathlib.Core.Bool.{Bool, true, false, _&&_}
 use mathlib.Core.Option.{Option, none, some}
 use mathlib.Core.List.{List, [], _∷_, _++_, map}
-use Prim.Native.Nat.{ℕ, zero, suc, _+_, _-_, _<_, _≤_}
+use Prim.Native.Nat.{ℕ, zero, suc, _+_, _-_, _<_}
 use native.Mathlib.Omega.{arith}
-use lib.ListN.{length, getD, take, replicate, length-map, length-append, length-take, length-replicate, getD-replicate, List·getD-append}
+use lib.ListN.{length, getD, take, replicate, length-map, length-append, length-replicate, getD-replicate, List·getD-append}
 use lib.Seq.{ext-getD, getD-take, length-take-le, getD-append-add}
 use Rattle.answer.specs.Answer.{pick}
 use Rattle.answer.proofs.Logic.{by-le}
 use Rattle.schema.specs.Table.{Kind, set, number32, number64, null, octets, root, Row, row, rows, rowAt, rowCount}
-use Rattle.schema.specs.Content.{ValueWith, num, nul, oct, nums, trust, FieldWith, Place, placeAt}
+use Rattle.schema.specs.Content.{ValueWith, nums, trust, Place, placeAt}
 use Rattle.records.specs.Fields.{fieldValue}
-use Rattle.records.specs.Content.{membersOf, rootOf, setAt, valueAt, fieldsOf, placesOf}
+use Rattle.records.specs.Content.{membersOf, rootOf, valueAt, fieldsOf, placesOf}
 use Rattle.records.specs.Equal.{presentAt}
 use Rattle.records.specs.Slots.{SetInSlots, InSlots}
-use Rattle.records.specs.Empty.{emptySet, emptyRoot, emptyList, emptyRecord}
-use Rattle.records.specs.Made.{partAt, isThere, valueWord, sizeWord, orZero, setMade, membersIn, isHashed, hashAt, rootMade, rootIn, listMade, recordMade}
+use Rattle.records.specs.Empty.{emptySet, emptyList, emptyRecord}
+use Rattle.records.specs.Made.{isThere, valueWord, sizeWord, orZero, setMade, membersIn, isHashed, hashAt, rootMade, rootIn, listMade, recordMade}
 use Rattle.records.specs.Clear.{usesValue, usesSize, SpareClear, HashClear, SetClear, RootClear, RowsSized, ListClear}
 use Rattle.records.specs.declared.NumberSet.{NumberSet}
 use Rattle.records.specs.declared.RootOfTrust.{RootOfTrust}

@@ -1,19 +1,19 @@
 -- The record that a well-shaped content's places make says just that content: each field stands at its number's row, and
 -- rows ascend as fields do. Assumes nothing.
-use mathlib.Core.Path.{_≡_, refl, sym, ap, subst, _∙_}
-use mathlib.Core.Bool.{Bool, true, false, _&&_}
+use mathlib.Core.Path.{_≡_, refl, sym, _∙_}
+use mathlib.Core.Bool.{Bool, true, false}
 use mathlib.Core.Option.{Option, none, some}
 use mathlib.Core.List.{List, [], _∷_, _++_, map}
-use Prim.Native.Nat.{ℕ, zero, suc, _+_, _<_, _≤_}
+use Prim.Native.Nat.{ℕ, _+_, _<_, _≤_}
 use native.Mathlib.Omega.{arith}
 use lib.Dec.{T, leb, ltb, eqb, leb→le, ltb→lt}
-use lib.ListN.{length, getD, take, replicate, length-append, length-replicate}
-use lib.Seq.{length-take-le, take-take, take-append-seam, take-append-le}
-use borrow.Author.Tests.{eq-eqb, ne-eqb, eqb-true, eqb-false}
+use lib.ListN.{length, getD, replicate, length-append, length-replicate}
+use lib.Seq.{length-take-le, take-take, take-append-seam}
+use borrow.Author.Tests.{eq-eqb, ne-eqb, eqb-true}
 use Rattle.answer.specs.Answer.{pick}
 use Rattle.answer.proofs.Logic.{by-le, and-left, and-right}
 use Rattle.codec.specs.Element.{chainGood}
-use Rattle.schema.specs.Table.{Kind, isKind, set, number32, number64, null, octets, root, Row, row, rows, rowAt, indexOf, find, heldIn, hashed, knownVersion, levelTop, top32, rowCount}
+use Rattle.schema.specs.Table.{Kind, isKind, set, number32, number64, null, octets, root, Row, row, rows, rowAt, indexOf, find, heldIn, knownVersion, levelTop, top32, rowCount}
 use Rattle.schema.specs.Content.{RootWith, ValueWith, num, nul, oct, nums, trust, FieldWith, field, Place, placeAt, Places, memberGood, afterMember, valueGood, rowGood, fieldGood, afterField, listGood, wellShaped}
 use Rattle.schema.proofs.Codecs.{shaped}
 use Rattle.schema.proofs.Table.{above, find-place, find-none}
@@ -21,7 +21,6 @@ use Rattle.records.specs.Fields.{fieldValue}
 use Rattle.records.specs.Content.{membersOf, rootOf, setAt, valueAt, fieldAt, upTo, fieldsOf, placesOf}
 use Rattle.records.specs.Slots.{SetInSlots, InSlots}
 use Rattle.records.specs.Made.{isThere, valueWord, sizeWord, orZero, setMade, membersIn, isHashed, hashAt, rootMade, rootIn, listMade, recordMade}
-use Rattle.records.specs.declared.FieldList.{FieldList}
 use Rattle.records.proofs.Placed.{by-set, by-root}
 use Rattle.records.proofs.Fields.{rows-differ, row-found}
 use Rattle.records.proofs.Made.{getD-map, rows-length}

@@ -1,22 +1,20 @@
 -- A record whose places lie in n octets has its parts inside them. Assumes nothing.
 use mathlib.Core.Path.{_≡_, refl, subst}
-use mathlib.Core.Bool.{Bool, true, false, _&&_}
+use mathlib.Core.Bool.{Bool, true, false}
 use mathlib.Core.Option.{none, some}
 use mathlib.Core.List.{List, [], _∷_, _++_}
 use Prim.Native.Nat.{ℕ, zero, suc, _+_, _<_, _≤_}
 use native.Mathlib.Omega.{arith}
-use lib.Dec.{T, leb, le→leb}
+use lib.Dec.{T, le→leb}
 use lib.ListN.{getD}
 use Rattle.answer.specs.Answer.{pick}
 use Rattle.answer.proofs.Logic.{by-le, and-both}
 use Rattle.schema.specs.Table.{Kind, set, number32, number64, null, octets, root, rowAt, rowCount}
 use Rattle.schema.specs.Content.{FieldWith, field, Place, placeAt}
 use Rattle.schema.specs.Parts.{HashIs, ValueIs, FieldsAre, EachPart}
-use Rattle.records.specs.Content.{rootOf, valueAt, fieldAt, upTo, fieldsOf, placesOf}
-use Rattle.records.specs.Rows.{allBelow}
+use Rattle.records.specs.Content.{valueAt, fieldAt, upTo, fieldsOf, placesOf}
 use Rattle.records.specs.Parts.{partInside, rootInside, contentInside, rowInside, listInside, partsInside}
 use Rattle.records.specs.declared.Part.{Part}
-use Rattle.records.specs.declared.RootOfTrust.{RootOfTrust}
 use Rattle.records.specs.declared.FieldList.{FieldList}
 use Rattle.records.specs.declared.Record.{Record}
 use Rattle.records.proofs.ContentShaped.{all-of}

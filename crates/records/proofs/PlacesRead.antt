@@ -1,6 +1,6 @@
 -- What a record says over its buffer is what lies at its places; so a record of the places that were read says what was
 -- read. Assumes nothing.
-use mathlib.Core.Path.{_≡_, refl, sym, ap, _∙_}
+use mathlib.Core.Path.{_≡_, refl, _∙_}
 use mathlib.Core.Bool.{Bool, true, false}
 use mathlib.Core.Option.{none, some}
 use mathlib.Core.List.{List, [], _∷_, _++_, map}
@@ -9,12 +9,12 @@ use lib.ListN.{getD}
 use Rattle.answer.specs.Answer.{got, pick, mapAnswer}
 use Rattle.codec.specs.Octets.{Octets}
 use Rattle.schema.specs.Table.{Kind, set, number32, number64, null, octets, root, rowAt, rowCount}
-use Rattle.schema.specs.Content.{ValueWith, Field, FieldWith, field, Content, Place, placeAt, Places, octetsIn, mapHash, mapValue, mapField, mapContent}
+use Rattle.schema.specs.Content.{FieldWith, Place, placeAt, octetsIn, mapHash, mapValue, mapField, mapContent}
 use Rattle.schema.specs.Decode.{read, readPlaces}
 use Rattle.schema.proofs.Places.{octets-at-places}
 use Rattle.records.specs.declared.FieldList.{FieldList}
 use Rattle.records.specs.declared.Record.{Record}
-use Rattle.records.specs.Content.{octetsAt, valueAt, fieldAt, upTo, fieldsOf, contentOf, placesOf}
+use Rattle.records.specs.Content.{octetsAt, valueAt, fieldAt, upTo, contentOf, placesOf}
 
 module _ (s : List ℕ) where
   hash-there : (b : Bool) (p : Place) → mapHash (octetsIn s) (pick b (some p) none) ≡ pick b (some (octetsIn s p)) none

@@ -1,8 +1,8 @@
 -- What a record says: absent fields, spare slots and the hash that is not there are dropped (document 01, "KeyDescription",
 -- the paragraph on records). What becomes of an octet part, given its start and length, is a parameter: `contentOf` takes the
 -- octets of a buffer there, `placesOf` leaves the part as a start and a length.
-use mathlib.Core.Bool.{Bool, true, false}
-use mathlib.Core.Option.{Option, none, some}
+use mathlib.Core.Bool.{false}
+use mathlib.Core.Option.{none, some}
 use mathlib.Core.List.{List, [], _∷_, _++_}
 use Prim.Native.Nat.{ℕ, zero, suc}
 use lib.ListN.{take, drop, getD}

@@ -1,7 +1,7 @@
 -- Document 01, "KeyDescription": "A set holds at most 16 numbers .., kept with their count": of a record, that no set's
 -- count runs past its 16 slots. What a record says cannot show it, as members stop where the slots do.
 use mathlib.Core.Path.{_≡_}
-use Prim.Native.Nat.{ℕ, _≤_}
+use Prim.Native.Nat.{_≤_}
 use lib.ListN.{length}
 use Rattle.records.specs.declared.NumberSet.{NumberSet}
 use Rattle.records.specs.declared.FieldList.{FieldList}

@@ -3,7 +3,6 @@ use mathlib.Core.Logic.{_↔_}
 use mathlib.Core.Path.{_≡_}
 use mathlib.Core.List.{List}
 use Prim.Native.Nat.{ℕ, _+_, _≤_}
-use lib.ListN.{length}
 use lib.Dec.{T}
 use Rattle.answer.specs.Answer.{got}
 use Rattle.codec.specs.Octets.{Octets}

@@ -8,23 +8,20 @@ use mir.Syntax.{w8}
 use lib.ListN.{length, getD, take}
 use lib.Seq.{length-take-le}
 use lib.Dec.{leb, le→leb}
-use Rattle.answer.specs.Answer.{Answer, got, refused, guard, bind, mapAnswer}
+use Rattle.answer.specs.Answer.{Answer, got, refused, bind, mapAnswer}
 use Rattle.answer.proofs.Answer.{guard-yes}
 use Rattle.answer.proofs.Logic.{and-both}
 use Rattle.codec.proofs.Splice.{length-splice}
 use Rattle.codec.specs.Octets.{Octets, left}
 use Rattle.schema.specs.Decode.{read}
 use Rattle.schema.proofs.Places.{octets-at-places}
-use Rattle.schema.specs.Count.{countOf}
-use Rattle.records.specs.Content.{contentOf}
 use Rattle.records.specs.Empty.{emptyRecord}
 use Rattle.records.proofs.PlacesRead.{places-read}
 use Rattle.records.specs.Shape.{wellShapedRecord}
-use Rattle.records.specs.Equal.{Equal}
 use Rattle.records.specs.declared.Record.{Record}
 use Rattle.reader.specs.declared.Outcome.{Outcome}
 use Rattle.reader.specs.Reading.{Reads}
-use Rattle.reader.proofs.Spelled.{octets-all}
+use Rattle.contents.proofs.Spelled.{octets-all}
 use Rattle.writer.specs.declared.Written.{Written}
 use Rattle.writer.specs.Written.{encodingOf, writable, ofWritten, written, leftBy, Writes}
 use Rattle.one_record.proofs.OneRecord.{read-encodable, wrote-encodable, read-of-write}

@@ -1,11 +1,11 @@
 -- The first check that refuses: a check at a time, group by group, and by what each number says. Assumes nothing.
 use mathlib.Core.Path.{_≡_, refl, sym, _∙_}
-use mathlib.Core.Logic.{_⊎_, inl, inr, ⊎-elim}
+use mathlib.Core.Logic.{inl, inr, ⊎-elim}
 use mathlib.Core.Bool.{Bool, true, false, not, _&&_}
 use mathlib.Core.List.{List, [], _∷_, _++_}
 use Prim.Native.Nat.{ℕ, suc, _<_, _≤_}
 use native.Mathlib.Omega.{arith}
-use lib.Dec.{T, leb, ltb, ltb→lt, leb→le}
+use lib.Dec.{T, leb, ltb, ltb→lt}
 use Rattle.answer.specs.Answer.{pick}
 use Rattle.answer.specs.Sentences.{Says, SaysFirst}
 use Rattle.answer.proofs.Sentences.{ascending, says-from}

@@ -4,13 +4,12 @@ use mathlib.Core.Option.{Option, none, some}
 use mathlib.Core.List.{List, [], _∷_, _++_}
 use Prim.Native.Nat.{ℕ, _≤_}
 use native.Mathlib.Omega.{arith}
-use lib.ListN.{length}
 use lib.Dec.{T, leb, ltb, leb→le}
 use Rattle.answer.specs.Answer.{pick}
 use Rattle.answer.proofs.Logic.{and-left, and-right, and-both}
 use Rattle.codec.specs.Octets.{Octets}
 use Rattle.codec.specs.Shortest.{integerOctets}
-use Rattle.codec.specs.Header.{Identifier, identifier, identifierGood, lengthGood, elementOctets}
+use Rattle.codec.specs.Header.{Identifier, identifier, identifierGood, elementOctets}
 use Rattle.codec.specs.Integer.{integerElement}
 use Rattle.codec.specs.Element.{chainOctets}
 use Rattle.codec.proofs.Encoded.{octets-append, integer-octets, element-octets, chain-octets}

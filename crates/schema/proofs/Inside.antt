@@ -1,25 +1,23 @@
 -- The places that are read lie in the bytes, and what is well-shaped does not depend on what octets become. Assumes nothing.
-use mathlib.Core.Path.{_≡_, refl, sym, ap, subst, _∙_}
-use mathlib.Core.Bool.{Bool, true, false, _&&_}
+use mathlib.Core.Path.{_≡_, refl, ap, subst, _∙_}
+use mathlib.Core.Bool.{Bool, true, false}
 use mathlib.Core.Option.{Option, none, some}
 use mathlib.Core.List.{List, [], _∷_, _++_, map}
 use Prim.Native.Nat.{ℕ, _+_, _≤_}
 use native.Mathlib.Omega.{arith}
-use lib.Dec.{T, leb, eqb}
 use lib.ListN.{length, length-append}
-use Rattle.answer.specs.Answer.{Answer, got, refused, guard, bind, mapAnswer}
+use Rattle.answer.specs.Answer.{Answer, got, mapAnswer}
 use Rattle.answer.specs.Refusal.{spareBytes, wrongElement}
 use Rattle.answer.proofs.Answer.{got-inj, refused-got, guard-case, bind-case}
-use Rattle.codec.specs.Octets.{Octets, Taken, taken}
-use Rattle.codec.specs.Header.{Identifier, identifier}
-use Rattle.codec.specs.Element.{tagged, exactly, chainGood}
-use Rattle.codec.specs.Tree.{nodes, firstPass}
+use Rattle.codec.specs.Octets.{Octets, Taken}
+use Rattle.codec.specs.Header.{identifier}
+use Rattle.codec.specs.Element.{chainGood}
 use Rattle.codec.proofs.Follow.{At, at-all, follows-self}
 use Rattle.codec.proofs.Keep.{All, Keeps, KeepsIn, Onward, onward, element-keeps, tagged-keeps, exactly-keeps, under-keeps, both-keeps, chain-keeps}
-use Rattle.schema.specs.Table.{Kind, set, number32, number64, null, octets, root, Row, rows, heldIn, find, levelTop, hashed, top32, top64}
-use Rattle.schema.specs.Content.{RootWith, ValueWith, num, nul, oct, nums, trust, FieldWith, field, Content, ContentWith, Place, placeAt, Places, octetsIn, mapHash, mapValue, mapField, mapContent, hashGood, valueGood, rowGood, fieldGood, afterField, listGood, wellShaped}
+use Rattle.schema.specs.Table.{Kind, set, number32, number64, null, octets, root, Row, rows, find, levelTop, hashed, top32}
+use Rattle.schema.specs.Content.{ValueWith, num, nul, oct, nums, trust, FieldWith, ContentWith, Place, Places, octetsIn, mapHash, mapValue, mapField, mapContent, hashGood, valueGood, rowGood, fieldGood, afterField, listGood, wellShaped}
 use Rattle.schema.specs.Parts.{HashIs, ValueIs, FieldsAre, EachPart}
-use Rattle.schema.specs.Decode.{readInteger, readEnumerated, readBoolean, readNull, readSet, readVersion, readOctets, readHash, RootParts, rootFrom, rootParts, readRoot, readValue, rowContent, fieldContent, readField, readList, Eight, eightFrom, readEight, decodeWith, readWith, asOctets, asPlace, read, readPlaces}
+use Rattle.schema.specs.Decode.{readInteger, readEnumerated, readBoolean, readVersion, readOctets, readHash, RootParts, rootFrom, rootParts, readRoot, readValue, rowContent, fieldContent, readField, readList, Eight, readEight, decodeWith, readWith, asOctets, asPlace, readPlaces}
 use Rattle.schema.specs.Statements.{PlacesInside, PlacesShaped}
 use Rattle.schema.proofs.Codecs.{readInteger-laws, readEnumerated-laws, readOctets-laws, readBoolean-laws, readVersion-laws, readField-laws, readList-laws, level-small}
 use Rattle.schema.proofs.Accepted.{read-sound}

@@ -1,23 +1,22 @@
 -- The octets of an extension's content are those that lie at its places: reading the octets is reading the places and then
 -- looking there. One law of `Follow` for each reader of specs/Decode.antt. Assumes nothing.
-use mathlib.Core.Path.{_≡_, refl, ap, _∙_}
+use mathlib.Core.Path.{_≡_, refl}
 use mathlib.Core.Bool.{Bool, true, false}
 use mathlib.Core.Option.{Option, none, some}
 use mathlib.Core.List.{List, map}
 use Prim.Native.Nat.{ℕ}
 use native.Mathlib.Omega.{arith}
 use lib.Dec.{leb, eqb}
-use lib.ListN.{length}
-use Rattle.answer.specs.Answer.{Answer, got, refused, guard, bind, mapAnswer}
+use Rattle.answer.specs.Answer.{Answer, got, refused, bind, mapAnswer}
 use Rattle.answer.specs.Refusal.{spareBytes, wrongElement, notInVersion, fieldOrder}
 use Rattle.codec.specs.Octets.{Octets, Taken, taken, mapTaken}
-use Rattle.codec.specs.Header.{Identifier, identifier}
-use Rattle.codec.specs.Element.{tagged, exactly, both, chain, under}
+use Rattle.codec.specs.Header.{identifier}
+use Rattle.codec.specs.Element.{tagged, exactly}
 use Rattle.codec.specs.Tree.{Node, nodes, firstPass}
-use Rattle.codec.proofs.Follow.{At, at-octets, at-all, Follows, FollowsIn, guarded, follows-self, element-follows, tagged-follows, exactly-follows, both-follows, under-follows, chain-follows}
+use Rattle.codec.proofs.Follow.{at-octets, at-all, Follows, FollowsIn, guarded, follows-self, element-follows, tagged-follows, exactly-follows, both-follows, under-follows, chain-follows}
 use Rattle.schema.specs.Table.{Kind, set, number32, number64, null, octets, root, Row, rows, heldIn, find, levelTop, hashed, top32, top64}
-use Rattle.schema.specs.Content.{RootWith, ValueWith, num, nul, oct, nums, trust, FieldWith, Field, field, ContentWith, Content, Place, Places, octetsIn, mapHash, mapRoot, mapValue, mapField, mapContent, afterField}
-use Rattle.schema.specs.Decode.{readInteger, readEnumerated, readBoolean, readNull, readSet, readVersion, readOctets, readHash, RootParts, rootFrom, rootParts, readRoot, readValue, rowContent, fieldContent, readField, readList, Eight, eightFrom, readEight, decodeWith, readWith, asOctets, asPlace, read, readPlaces}
+use Rattle.schema.specs.Content.{ValueWith, num, nul, oct, nums, trust, field, Content, Place, Places, octetsIn, mapHash, mapValue, mapField, mapContent, afterField}
+use Rattle.schema.specs.Decode.{readInteger, readEnumerated, readBoolean, readNull, readSet, readVersion, readOctets, readHash, RootParts, rootFrom, rootParts, readRoot, readValue, rowContent, fieldContent, readField, readList, Eight, eightFrom, readEight, decodeWith, readWith, asOctets, asPlace}
 use Rattle.schema.specs.Statements.{OctetsAtPlaces}
 use Rattle.schema.proofs.Codecs.{readInteger-laws, readEnumerated-laws, readOctets-laws, readBoolean-laws, readVersion-laws, readField-laws, readList-laws, level-small}
 use Rattle.codec.specs.Limits.{extensionBytes, extensionDepth, extensionElements}

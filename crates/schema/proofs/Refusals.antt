@@ -1,28 +1,28 @@
 -- Which refusals a read can give: 1 to 14, and where the first pass accepts 8 to 14. Whatever becomes of octets, each reader
 -- of specs/Decode.antt keeps to its own numbers over elements that the first pass took. Assumes nothing.
-use mathlib.Core.Path.{_≡_, refl, sym, ap, _∙_}
-use mathlib.Core.Bool.{Bool, true, false, _||_}
+use mathlib.Core.Path.{_≡_, sym, _∙_}
+use mathlib.Core.Bool.{Bool, true, false}
 use mathlib.Core.Option.{Option, none, some}
 use mathlib.Core.List.{List, [], _∷_, append-nil}
 use Prim.Native.Nat.{ℕ, _≤_}
 use native.Mathlib.Omega.{arith}
-use lib.Dec.{T, leb, eqb, eqb→eq}
+use lib.Dec.{eqb, eqb→eq}
 use lib.ListN.{length}
-use Rattle.answer.specs.Answer.{Answer, got, refused, guard, bind}
+use Rattle.answer.specs.Answer.{Answer, got, refused}
 use Rattle.answer.specs.Refusal.{spareBytes, wrongElement, badContent}
 use Rattle.answer.proofs.Answer.{got-inj, refused-got, guard-yes, bind-case, bind-refuses, guard-case, guard-refuses}
-use Rattle.codec.specs.Octets.{Octets, Taken, taken}
+use Rattle.codec.specs.Octets.{Taken}
 use Rattle.codec.specs.Header.{Identifier, identifier, holds}
 use Rattle.codec.specs.Integer.{integerOf}
 use Rattle.codec.specs.Element.{tagged, exactly}
-use Rattle.codec.specs.Tree.{Node, node, none, and, nodes, firstPass, octetsOf, runOctets, Each, Within}
+use Rattle.codec.specs.Tree.{Node, none, and, octetsOf, runOctets, Each, Within}
 use Rattle.codec.proofs.Tree.{first-pass-sound}
 use Rattle.codec.proofs.Ranges.{Run, InRange, Ranged, Shortens, RangedIn, held, element-alone, element-ranged, element-shortens, tagged-ranged, tagged-shortens, exactly-ranged, both-ranged, under-ranged, chain-ranged}
 use Rattle.codec.proofs.Refusals.{first-pass-refuses}
 use Rattle.schema.specs.Statements.{ReadingRefuses, AfterFirstPass}
-use Rattle.schema.specs.Table.{Kind, set, number32, number64, null, octets, root, Row, rows, heldIn, find, levelTop, hashed, top32, top64}
-use Rattle.schema.specs.Content.{num, nul, oct, nums, trust, FieldWith, afterMember, afterField}
-use Rattle.schema.specs.Decode.{readInteger, readEnumerated, booleanOf, readBoolean, nullOf, readNull, readMember, readSet, readVersion, readOctets, readHash, rootFrom, rootParts, readRoot, readValue, rowContent, fieldContent, readField, readList, Eight, readEight, eightFrom, decodeWith, readWith}
+use Rattle.schema.specs.Table.{Kind, set, number32, number64, null, octets, root, Row, rows, find, levelTop, hashed, top32, top64}
+use Rattle.schema.specs.Content.{num, nul, oct, nums, trust, afterMember, afterField}
+use Rattle.schema.specs.Decode.{readInteger, readEnumerated, booleanOf, readBoolean, nullOf, readNull, readMember, readSet, readVersion, readOctets, readHash, rootFrom, rootParts, readRoot, readValue, rowContent, fieldContent, readField, readList, Eight, readEight, decodeWith, readWith}
 use Rattle.codec.specs.Limits.{extensionBytes, extensionDepth, extensionElements}
 
 -- the schema's own refusals

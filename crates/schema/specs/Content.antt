@@ -3,8 +3,8 @@ use mathlib.Core.Bool.{Bool, true, false, _&&_, _||_}
 use mathlib.Core.Option.{Option, none, some}
 use mathlib.Core.List.{List, [], _∷_, _++_, map}
 use Prim.Native.Nat.{ℕ, _+_}
-use lib.ListN.{length, take, drop}
-use lib.Dec.{ltb, leb, eqb}
+use lib.ListN.{take, drop}
+use lib.Dec.{ltb, leb}
 use Rattle.answer.specs.Answer.{pick}
 use Rattle.codec.specs.Shortest.{integerOctets}
 use Rattle.codec.specs.Integer.{integerElement}

@@ -3,7 +3,7 @@
 use mathlib.Core.Option.{Option, none, some}
 use mathlib.Core.List.{List, [], _∷_}
 use Rattle.codec.specs.Octets.{Octets}
-use Rattle.schema.specs.Content.{RootWith, ValueWith, num, nul, oct, nums, trust, FieldWith, ContentWith, Content}
+use Rattle.schema.specs.Content.{ValueWith, num, nul, oct, nums, trust, FieldWith, ContentWith, Content}
 
 module _ {O : Type 0} (Is : O → Type 0) where
   abbrev pub HashIs : Option O → Type 0

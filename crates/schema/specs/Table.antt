@@ -1,6 +1,6 @@
 -- Document 01, "KeyDescription": the 42 fields, one row each, and what each version holds. Where a start is given it is
 -- document 01's; which version holds what is that of the schemas printed in source document 001.
-use mathlib.Core.Bool.{Bool, true, false, _&&_, _||_}
+use mathlib.Core.Bool.{Bool, _&&_, _||_}
 use mathlib.Core.Option.{Option, none, some}
 use mathlib.Core.List.{List, [], _∷_}
 use Prim.Native.Nat.{ℕ, suc}

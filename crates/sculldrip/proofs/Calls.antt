@@ -1,14 +1,14 @@
 -- Each function's answer is the defined one: the tests in their order, then what the called function answers.
 -- Assumes nothing.
 use mathlib.Core.Path.{_≡_, refl, sym, ap, subst, _∙_}
-use mathlib.Core.Bool.{Bool, true, false, not}
+use mathlib.Core.Bool.{not}
 use mathlib.Core.List.{List, [], _∷_}
-use mathlib.Core.Option.{Option, none, some}
+use mathlib.Core.Option.{Option}
 use Prim.Native.Nat.{ℕ, _<_, _≤_}
-use lib.Dec.{eqb, leb}
+use lib.Dec.{eqb}
 use lib.ListN.{length, set}
 use borrow.Author.Tests.{le-leb, lt-leb}
-use Rattle.answer.specs.Answer.{Answer, got, refused, guard, bind}
+use Rattle.answer.specs.Answer.{Answer, refused, guard, bind}
 use Rattle.answer.specs.Refusal.{shortImage}
 use Rattle.codec.specs.Octets.{splice}
 use Rattle.codec.proofs.Splice.{splice-nothing, splice-stores}
@@ -29,20 +29,20 @@ use Rattle.image.specs.declared.Imaged.{Imaged}
 use Rattle.image.specs.Image.{recordIn, ofImaged}
 use Rattle.image.proofs.Imaging.{is-refused, is-got}
 use Rattle.sculldrip.specs.Packed.{packed}
-use Rattle.sculldrip.specs.Calls.{atLeast, ofImage, told, leaves, writeImage, writeAnswer, recordLeaves, writeLeaves, askImage, requestOf, ruleImage, enrolImage}
+use Rattle.sculldrip.specs.Calls.{atLeast, ofImage, beside, leaves, writeImage, writeAnswer, writeLeaves, askImage, requestOf, ruleImage, enrolImage}
 
 -- ---- the number of an answer, and what it leaves
 
 module _ {A : Type 0} {x a : Answer A} (e : x ≡ a) where
-  pub numbered : (count : A → ℕ) {n : ℕ} → n ≡ packed (told count x) → n ≡ packed (told count a)
-  numbered count {n} h = subst (λ (y : Answer A). n ≡ packed (told count y)) e h
+  pub numbered : (count : A → ℕ) {n : ℕ} → n ≡ packed (beside count x) → n ≡ packed (beside count a)
+  numbered count {n} h = subst (λ (y : Answer A). n ≡ packed (beside count y)) e h
 
   left-words : (words : A → List ℕ) (old : List ℕ) {new : List ℕ} → new ≡ leaves words x old → new ≡ leaves words a old
   left-words words old {new} h = subst (λ (y : Answer A). new ≡ leaves words y old) e h
 
 -- both clauses at once
 module _ {A : Type 0} (count : A → ℕ) (words : A → List ℕ) (old : List ℕ) {x a : Answer A} (e : x ≡ a) {new : List ℕ} {n : ℕ} where
-  pub answered : n ≡ packed (told count x) → new ≡ leaves words x old → (n ≡ packed (told count a)) × (new ≡ leaves words a old)
+  pub answered : n ≡ packed (beside count x) → new ≡ leaves words x old → (n ≡ packed (beside count a)) × (new ≡ leaves words a old)
   answered p q = (numbered e count p, left-words e words old q)
 
 -- the number of a listing's answer

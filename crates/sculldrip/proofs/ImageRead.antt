@@ -10,7 +10,7 @@ use mir.Val.{Fits}
 use lib.ListN.{length, getD, drop}
 use lib.Seq.{drop-at}
 use borrow.Author.Tests.{le-leb}
-use Rattle.answer.specs.Answer.{Answer, got, refused, pick}
+use Rattle.answer.specs.Answer.{Answer, refused, pick}
 use Rattle.answer.specs.Refusal.{shortImage}
 use Rattle.codec.specs.Octets.{splice}
 use Rattle.codec.proofs.Splice.{length-splice}
@@ -25,12 +25,12 @@ use Rattle.image.specs.Whole.{WholeRecord}
 use Rattle.image.proofs.Puts.{image-length}
 use Rattle.image.proofs.RoundTrip.{record-back, image-fits}
 use Rattle.sculldrip.specs.Packed.{packed}
-use Rattle.sculldrip.specs.Calls.{told, isAccepted, elementsOf, readInto, readAnswer, ImageOfRead, LeavesRead, ReadLeaves}
+use Rattle.sculldrip.specs.Calls.{beside, isAccepted, elementsOf, readInto, readAnswer, ImageOfRead, LeavesRead, ReadLeaves}
 use Rattle.sculldrip.specs.Statements.{ReadImage, ReadBack}
 use Rattle.sculldrip.proofs.Calls.{too-few, enough, numbered}
 
 -- both clauses, from the answer that they speak of
-told : (s old new : List ℕ) {x : Answer (Content × ℕ)} → x ≡ readInto s old → {n : ℕ} → n ≡ packed (told (λ c. c .1) x) → LeavesRead x s old new
+told : (s old new : List ℕ) {x : Answer (Content × ℕ)} → x ≡ readInto s old → {n : ℕ} → n ≡ packed (beside (λ c. c .1) x) → LeavesRead x s old new
     → (n ≡ readAnswer s old) × ReadLeaves s old new
 told s old new e {n} p q = (numbered e (λ c. c .1) p, subst (λ (y : Answer (Content × ℕ)). LeavesRead y s old new) e q)
 

@@ -1,10 +1,10 @@
 -- Which numbers each function can answer: a refusal's number comes from one of its tests, and those are few. Assumes
 -- nothing.
-use mathlib.Core.Bool.{Bool, true, false, not, _&&_, _||_}
+use mathlib.Core.Bool.{Bool, true, false, not, _&&_}
 use mathlib.Core.List.{List, [], _∷_}
 use mathlib.Core.Option.{Option, none, some}
-use mathlib.Core.Path.{_≡_, refl, sym, subst}
-use Prim.Native.Nat.{ℕ, _+_, _*_, _/_, _%_, _<_, _≤_}
+use mathlib.Core.Path.{_≡_, refl}
+use Prim.Native.Nat.{ℕ, _<_, _≤_}
 use native.Mathlib.Omega.{arith}
 use lib.Dec.{T, eqb, leb, ltb, ltb→lt}
 use lib.ListN.{length}
@@ -30,8 +30,8 @@ use Rattle.listing.specs.Room.{listed}
 use Rattle.listing.specs.Text.{listing}
 use Rattle.extension_text.specs.Bytes.{room, extensionListed}
 use Rattle.image.specs.Image.{recordIn}
-use Rattle.sculldrip.specs.Packed.{restTop, rest, word, packed}
-use Rattle.sculldrip.specs.Calls.{told, readInto, writeImage, askImage, asked, requestOf, ruleImage, enrolImage}
+use Rattle.sculldrip.specs.Packed.{restTop, packed}
+use Rattle.sculldrip.specs.Calls.{beside, readInto, writeImage, askImage, asked, requestOf, ruleImage, enrolImage}
 use Rattle.sculldrip.specs.Statements.{Tells, oneOf, RestWhole, readRefusal, ReadAnswers, WriteAnswers, OctetsAnswers, ruleRefusal, RuleAnswers, enrolRefusal, EnrolAnswers, ListAnswers}
 
 -- a refusal's number is one of these, all of them bytes and none of them 0
@@ -55,7 +55,7 @@ module _ (may : ℕ → Bool) where
   by-answer (got n) h = (omega arith, omega arith)
   by-answer (refused number place) h = let g = h .1 in (h .0, g .0, omega arith, omega arith)
 
-  by-count : {A : Type 0} (count : A → ℕ) (a : Answer A) → Within may a → Tells may (told count a) (packed (told count a))
+  by-count : {A : Type 0} (count : A → ℕ) (a : Answer A) → Within may a → Tells may (beside count a) (packed (beside count a))
   by-count count (got x) h = by-answer (got (count x)) tt
   by-count count (refused number place) h = by-answer (refused number place) h
 

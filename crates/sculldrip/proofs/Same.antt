@@ -6,9 +6,9 @@ use mathlib.Core.Option.{Option}
 use mathlib.Core.List.{List}
 use Prim.Native.Nat.{ℕ, _≤_}
 use lib.ListN.{length}
-use lib.Dec.{eqb, leb}
+use lib.Dec.{eqb}
 use borrow.Author.Tests.{le-leb}
-use Rattle.answer.specs.Answer.{Answer, got, refused, guard, bind, pick}
+use Rattle.answer.specs.Answer.{Answer, got, guard, bind, pick}
 use Rattle.answer.specs.Refusal.{illShaped}
 use Rattle.schema.specs.Content.{Content, Places, octetsIn, mapContent, encode}
 use Rattle.records.specs.Content.{contentOf}
@@ -23,10 +23,9 @@ use Rattle.ruling.specs.Ruling.{Permit, ruling}
 use Rattle.enrolment.specs.Enrolled.{enrolled}
 use Rattle.image.specs.Image.{recordOf, wordsFit, recordIn}
 use Rattle.image.specs.Agree.{Agree}
-use Rattle.image.specs.Statements.{SameAnswers}
 use Rattle.image.proofs.Agree.{not-looked-at}
 use Rattle.sculldrip.specs.Packed.{packed}
-use Rattle.sculldrip.specs.Calls.{atLeast, ofImage, told, leaves, asked, partWords, recordLeaves, writeImage, writeLeaves, askImage, requestOf, permitWords, ruleImage, enrolImage}
+use Rattle.sculldrip.specs.Calls.{atLeast, ofImage, beside, leaves, asked, partWords, recordLeaves, writeImage, writeLeaves, askImage, requestOf, permitWords, ruleImage, enrolImage}
 use Rattle.sculldrip.specs.Statements.{SameWritten, SameOctets, SameRuled, SameEnrolled}
 
 -- the record of a whole image, where its words fit
@@ -107,7 +106,7 @@ pub same-octets : SameOctets
 unfolding askImage
 same-octets w w′ hardware number len part a =
     let e = ap (λ (x : Answer (Option (ℕ × ℕ))). atLeast 2 part x) (of-same w w′ a (λ r. askedOctets r (not (eqb hardware 0)) number len) (asked-same w w′ a (not (eqb hardware 0)) number len)) in
-    (ap (λ (x : Answer (Option (ℕ × ℕ))). packed (told asked x)) e, ap (λ (x : Answer (Option (ℕ × ℕ))). leaves partWords x part) e)
+    (ap (λ (x : Answer (Option (ℕ × ℕ))). packed (beside asked x)) e, ap (λ (x : Answer (Option (ℕ × ℕ))). leaves partWords x part) e)
 
 pub same-ruled : SameRuled
 unfolding ruleImage
@@ -115,9 +114,9 @@ same-ruled w w′ request permit a =
     let e =
     ap (λ (x : Answer Permit). atLeast 16 request (atLeast 4 permit x))
     (of-same w w′ a (λ r. ruling r (requestOf request)) (ruled-same w w′ a (requestOf request))) in
-    (ap (λ (x : Answer Permit). packed (told (λ p. 0) x)) e, ap (λ (x : Answer Permit). leaves permitWords x permit) e)
+    (ap (λ (x : Answer Permit). packed (beside (λ p. 0) x)) e, ap (λ (x : Answer Permit). leaves permitWords x permit) e)
 
 pub same-enrolled : SameEnrolled
 unfolding enrolImage
 same-enrolled w w′ s expected a =
-    ap (λ (x : Answer (Unit {0})). packed (told (λ u. 0) x)) (of-same w w′ a (λ r. enrolled r s expected) (enrolled-same w w′ a s expected))
+    ap (λ (x : Answer (Unit {0})). packed (beside (λ u. 0) x)) (of-same w w′ a (λ r. enrolled r s expected) (enrolled-same w w′ a s expected))

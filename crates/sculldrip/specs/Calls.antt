@@ -35,9 +35,9 @@ abbrev pub ofImage : {A : Type 0} → List ℕ → (Record → Answer A) → Ans
 ofImage image next = bind (recordIn image) next
 
 -- the count, length or 0 that stands beside what was answered
-abbrev pub told : {A : Type 0} → (A → ℕ) → Answer A → Answer ℕ
-told count (got a) = got (count a)
-told count (refused number place) = refused number place
+abbrev pub beside : {A : Type 0} → (A → ℕ) → Answer A → Answer ℕ
+beside count (got a) = got (count a)
+beside count (refused number place) = refused number place
 
 -- the words of what was answered, at the front; not one changed where it is refused
 abbrev pub leaves : {A : Type 0} → (A → List ℕ) → Answer A → List ℕ → List ℕ
@@ -56,7 +56,7 @@ unfoldable pub readInto : List ℕ → List ℕ → Answer (Content × ℕ)
 readInto s image = atLeast 410 image (read s)
 
 abbrev pub readAnswer : List ℕ → List ℕ → ℕ
-readAnswer s image = packed (told (λ c. c .1) (readInto s image))
+readAnswer s image = packed (beside (λ c. c .1) (readInto s image))
 
 -- a read's outcome: whether there is a record, and its count of elements
 abbrev pub isAccepted : Outcome → Bool
@@ -114,7 +114,7 @@ partWords (some p) = p .0 ∷ p .1 ∷ []
 partWords none = []
 
 abbrev pub askAnswer : List ℕ → ℕ → ℕ → ℕ → List ℕ → ℕ
-askAnswer image hardware number len part = packed (told asked (askImage image hardware number len part))
+askAnswer image hardware number len part = packed (beside asked (askImage image hardware number len part))
 
 abbrev pub askLeaves : List ℕ → ℕ → ℕ → ℕ → List ℕ → List ℕ
 askLeaves image hardware number len part = leaves partWords (askImage image hardware number len part) part
@@ -153,7 +153,7 @@ unfoldable pub ruleImage : List ℕ → List ℕ → List ℕ → Answer Permit
 ruleImage image request permit = atLeast 16 request (atLeast 4 permit (ofImage image (λ r. ruling r (requestOf request))))
 
 abbrev pub ruleAnswer : List ℕ → List ℕ → List ℕ → ℕ
-ruleAnswer image request permit = packed (told (λ p. 0) (ruleImage image request permit))
+ruleAnswer image request permit = packed (beside (λ p. 0) (ruleImage image request permit))
 
 abbrev pub ruleLeaves : List ℕ → List ℕ → List ℕ → List ℕ
 ruleLeaves image request permit = leaves permitWords (ruleImage image request permit) permit
@@ -164,7 +164,7 @@ unfoldable pub enrolImage : List ℕ → List ℕ → List ℕ → Answer (Unit 
 enrolImage image s expected = ofImage image (λ r. enrolled r s expected)
 
 abbrev pub enrolAnswer : List ℕ → List ℕ → List ℕ → ℕ
-enrolAnswer image s expected = packed (told (λ u. 0) (enrolImage image s expected))
+enrolAnswer image s expected = packed (beside (λ u. 0) (enrolImage image s expected))
 
 -- ---- sculldrip_list
 

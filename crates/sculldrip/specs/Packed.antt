@@ -1,6 +1,6 @@
 -- include/sculldrip.h: "An answer is one number. Its low byte is 0 where the function did what it is for, and then the rest
 -- (answer >> 8) is a count or a length; else the low byte is the refusal's number .. and the rest is the byte place".
-use Prim.Native.Nat.{ℕ, _+_, _*_, _<_}
+use Prim.Native.Nat.{ℕ, _+_, _*_}
 use lib.Dec.{ltb}
 use Rattle.answer.specs.Answer.{Answer, got, refused, pick}
 

@@ -15,7 +15,7 @@ use Rattle.image.specs.Image.{recordOf, wordsFit}
 use Rattle.image.specs.Agree.{Agree}
 use Rattle.extension_text.specs.Bytes.{extensionListed}
 use Rattle.sculldrip.specs.Packed.{restTop, rest}
-use Rattle.sculldrip.specs.Calls.{ImageOfRead, told, readInto, readAnswer, writeImage, writeAnswer, writeLeaves, asked, askImage, askAnswer, askLeaves, ruleImage, ruleAnswer, ruleLeaves, enrolImage, enrolAnswer, listAnswer}
+use Rattle.sculldrip.specs.Calls.{ImageOfRead, beside, readInto, readAnswer, writeImage, writeAnswer, writeLeaves, asked, askImage, askAnswer, askLeaves, ruleImage, ruleAnswer, ruleLeaves, enrolImage, enrolAnswer, listAnswer}
 
 -- "Its low byte is 0 where the function did what it is for, and then the rest (answer >> 8) is a count or a length; else the
 -- low byte is the refusal's number .. and the rest is the byte place"
@@ -43,7 +43,7 @@ abbrev pub readRefusal : ℕ → Bool
 readRefusal n = leb n 14 || eqb n 200
 
 abbrev pub ReadAnswers : Type 0
-ReadAnswers = (s image : List ℕ) → Octets s → Tells readRefusal (told (λ c. c .1) (readInto s image)) (readAnswer s image)
+ReadAnswers = (s image : List ℕ) → Octets s → Tells readRefusal (beside (λ c. c .1) (readInto s image)) (readAnswer s image)
 
 -- "Refusals 20, 22 and 21 in that order, and 200"
 abbrev pub WriteAnswers : Type 0
@@ -53,21 +53,21 @@ WriteAnswers = (image s out : List ℕ) → Tells (oneOf (20 ∷ 21 ∷ 22 ∷ 2
 abbrev pub OctetsAnswers : Type 0
 OctetsAnswers =
     (image : List ℕ) (hardware number len : ℕ) (part : List ℕ)
-    → Tells (oneOf (20 ∷ 200 ∷ [])) (told asked (askImage image hardware number len part)) (askAnswer image hardware number len part)
+    → Tells (oneOf (20 ∷ 200 ∷ [])) (beside asked (askImage image hardware number len part)) (askAnswer image hardware number len part)
 
 -- "Refusals 20 and 30 to 46, and 200"
 abbrev pub ruleRefusal : ℕ → Bool
 ruleRefusal n = oneOf (20 ∷ 200 ∷ []) n || (leb 30 n && leb n 46)
 
 abbrev pub RuleAnswers : Type 0
-RuleAnswers = (image request permit : List ℕ) → Tells ruleRefusal (told (λ p. 0) (ruleImage image request permit)) (ruleAnswer image request permit)
+RuleAnswers = (image request permit : List ℕ) → Tells ruleRefusal (beside (λ p. 0) (ruleImage image request permit)) (ruleAnswer image request permit)
 
 -- "Refusals 20 and 50 to 55, and 200"
 abbrev pub enrolRefusal : ℕ → Bool
 enrolRefusal n = oneOf (20 ∷ 200 ∷ []) n || (leb 50 n && leb n 55)
 
 abbrev pub EnrolAnswers : Type 0
-EnrolAnswers = (image s expected : List ℕ) → Tells enrolRefusal (told (λ u. 0) (enrolImage image s expected)) (enrolAnswer image s expected)
+EnrolAnswers = (image s expected : List ℕ) → Tells enrolRefusal (beside (λ u. 0) (enrolImage image s expected)) (enrolAnswer image s expected)
 
 -- ".. or the answer is 21"
 abbrev pub ListAnswers : Type 0

@@ -1,5 +1,4 @@
 -- `plain_size` meets its contract: one law of `Sizes` for each arm. Assumes nothing.
-use mathlib.Core.Path.{refl}
 use Rattle.sizes.proofs.Sizing.{value-number32, value-number64, value-octets, value-null}
 use borrow.Author.Needs.{needs}
 use Rattle.sizes.proofs.plain_size.Statement.{statement}

@@ -2,7 +2,7 @@
 use mathlib.Core.List.{map}
 use Prim.Native.Nat.{_-_}
 use native.Mathlib.Omega.{arith}
-use mathlib.Core.Path.{refl, _∙_}
+use mathlib.Core.Path.{_∙_}
 use lib.ListN.{length-map}
 use Rattle.image.specs.Image.{flagWord}
 use Rattle.image.proofs.Puts.{Placed, placed-none, placed-more, placed-all, placed-length, flag-word}

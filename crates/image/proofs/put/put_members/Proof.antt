@@ -1,5 +1,4 @@
 -- `put_members` meets its contract: the words passed stand in their places. Assumes nothing.
-use mathlib.Core.List.{map}
 use Prim.Native.Nat.{_-_}
 use lib.ListN.{getD}
 use mir.Syntax.{w32}
@@ -8,9 +7,8 @@ use borrow.Author.Tests.{le-leb}
 use Rattle.records.proofs.ContentShaped.{all-of}
 use Rattle.image.specs.Image.{narrowAt}
 use native.Mathlib.Omega.{arith}
-use mathlib.Core.Path.{refl, _∙_}
-use lib.ListN.{length-map}
-use Rattle.image.proofs.Puts.{Placed, placed-none, placed-more, placed-all, placed-length, flag-word}
+use mathlib.Core.Path.{refl}
+use Rattle.image.proofs.Puts.{Placed, placed-none, placed-more, placed-all, placed-length}
 use borrow.Author.Needs.{needs}
 use Rattle.image.proofs.put.put_members.Statement.{statement}
 use Rattle.image.proofs.put.put_members.Tie as tie

@@ -1,10 +1,8 @@
 -- `put_numbers` meets its contract: the words passed stand in their places. Assumes nothing.
-use mathlib.Core.List.{map}
 use Prim.Native.Nat.{_-_}
 use native.Mathlib.Omega.{arith}
-use mathlib.Core.Path.{refl, _∙_}
-use lib.ListN.{length-map}
-use Rattle.image.proofs.Puts.{Placed, placed-none, placed-more, placed-all, placed-length, flag-word}
+use mathlib.Core.Path.{refl}
+use Rattle.image.proofs.Puts.{Placed, placed-none, placed-more, placed-all, placed-length}
 use borrow.Author.Needs.{needs}
 use Rattle.image.proofs.put.put_numbers.Statement.{statement}
 use Rattle.image.proofs.put.put_numbers.Tie as tie

@@ -3,7 +3,7 @@
 use lib.ListN.{length}
 use denote.Ref.{now}
 use native.Mathlib.Omega.{arith}
-use Rattle.reader.proofs.Open.{tagged-inside}
+use Rattle.contents.proofs.Open.{tagged-inside}
 use Rattle.reader.proofs.Eights.{walk-no, outer-no, six-no, opened-to}
 use borrow.Author.Needs.{needs}
 use Rattle.reader.proofs.eight.read_opening.Statement.{statement}

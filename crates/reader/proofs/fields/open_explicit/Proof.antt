@@ -1,5 +1,5 @@
 -- `open_explicit` meets its contract: by the short ways, or by the long one. Assumes nothing.
-use Rattle.reader.proofs.Shorts.{explicit-is, explicit-inside}
+use Rattle.contents.proofs.Shorts.{explicit-is, explicit-inside}
 use borrow.Author.Needs.{needs}
 use Rattle.reader.proofs.fields.open_explicit.Statement.{statement}
 use Rattle.reader.proofs.fields.open_explicit.Tie as tie

@@ -3,7 +3,7 @@ use Prim.Native.Nat.{_-_}
 use mathlib.Core.Path.{refl}
 use native.Mathlib.Omega.{arith}
 use Rattle.reader.proofs.Filling.{Filled, filled-none, filled-no, plain-no, plain-is, set-no, set-purpose, set-digest, set-padding, set-mgf, root-no, root-is, filled-in, filled-all}
-use Rattle.reader.proofs.FieldReads.{field-fits, field-stop, field-row, field-scaled, field-next, field-less}
+use Rattle.reader.proofs.FieldReads.{field-fits, field-row, field-scaled, field-next, field-less}
 use borrow.Author.Needs.{needs}
 use Rattle.reader.proofs.fields.read_fields.Statement.{statement}
 use Rattle.reader.proofs.fields.read_fields.Tie as tie
@@ -39,7 +39,7 @@ enum-told : tie.Need-enum-told Inv-loop μ-loop
 enum-told c = search needs
 
 set-content-requires : tie.Need-set-content-requires Inv-loop μ-loop
-set-content-requires c κs = (search field-stop, search field-fits)
+set-content-requires c κs = search needs
 
 enum-known-step : tie.Need-enum-known-step Inv-loop μ-loop
 enum-known-step c = search needs

@@ -1,7 +1,7 @@
 -- `read_list` meets its contract: the SEQUENCE opened, and its fields. Assumes nothing.
 use native.Mathlib.Omega.{arith}
-use Rattle.reader.proofs.Open.{tagged-inside}
-use Rattle.reader.proofs.Members.{step-inside}
+use Rattle.contents.proofs.Open.{tagged-inside}
+use Rattle.contents.proofs.Members.{step-inside}
 use Rattle.reader.proofs.Filling.{list-no, list-is}
 use Rattle.reader.proofs.Bounds.{list-empty-in}
 use borrow.Author.Needs.{needs}
