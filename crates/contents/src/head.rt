@@ -18,13 +18,13 @@ ghost use Rattle.contents.specs.Leaf.{ofNumber};
 ghost use Rattle.contents.specs.Head.{levelAfter, readAttestation, readKeymint, readNames, headAfter, readHead, ofSecured, ofNames, ofHead, VersionInside, LevelInside, SecuredInside, AttestationInside, NamesInside, HeadInside, KnownVersion};
 
 // A version with its security level, and the next place; or a refusal with its place.
-pub enum Secured {
+pub(crate) enum Secured {
     Is(Security, usize),
     Refused(u8, usize),
 }
 
 // The challenge and the unique id, and the next place; or a refusal with its place.
-pub enum Names {
+pub(crate) enum Names {
     Is {
         challenge: Part,
         unique: Part,

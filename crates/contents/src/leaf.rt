@@ -12,19 +12,19 @@ ghost use Rattle.schema.specs.Decode.{readOctets, readBoolean, readNull, asPlac
 ghost use Rattle.contents.specs.Leaf.{readNumber, ShortNumber, withinTop, ofValue, ofNumber, ofOctets, ofBoolean, ofNull, NumberInside, OctetsInside};
 
 // The number that content octets spell, shortest, not negative and within its top; or content that is wrong.
-pub enum Value {
+pub(crate) enum Value {
     Is(u64),
     Wrong,
 }
 
 // A number and the next place; or a refusal with its place. Of a BOOLEAN, 0 or 1; of a NULL, 0.
-pub enum Number {
+pub(crate) enum Number {
     Is(u64, usize),
     Refused(u8, usize),
 }
 
 // The content of an OCTET STRING, as a part of the bytes, and the next place; or a refusal with its place.
-pub enum Octets {
+pub(crate) enum Octets {
     Is {
         start: usize,
         len: usize,
