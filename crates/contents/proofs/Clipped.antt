@@ -12,24 +12,23 @@ use Rattle.schema.specs.Decode.{readSet, readRoot, asPlace}
 use Rattle.records.specs.Content.{membersOf}
 use Rattle.records.specs.declared.NumberSet.{NumberSet}
 use Rattle.contents.specs.Element.{opened, openedAs, ofElement, ofTagged, ElementInside, TaggedInside}
-use Rattle.contents.specs.Content.{ofStepped, PlainRead}
-use Rattle.contents.specs.Root.{ofTrust}
+use Rattle.contents.specs.Content.{ofFit, ofRootContent, PlainRead}
 use Rattle.contents.specs.Head.{readHead, ofHead, HeadInside}
 use Rattle.contents.specs.declared.element.Element.{Element}
 use Rattle.contents.specs.declared.element.Tagged.{Tagged}
 use Rattle.contents.specs.declared.content.Plain.{Plain}
-use Rattle.contents.specs.declared.set.Step.{Step}
-use Rattle.contents.specs.declared.root.Root.{Root}
+use Rattle.contents.specs.declared.content.Fit.{Fit}
+use Rattle.contents.specs.declared.content.RootContent.{RootContent}
 use Rattle.contents.specs.declared.head.Head.{Head}
 
 module _ (s : List ℕ) (at stop end : ℕ) (e : take stop s ≡ take end s) where
   pub plain-clipped : (k : Kind) (r : Plain) → PlainRead k at (slice at stop s) r → PlainRead k at (slice at end s) r
   plain-clipped k r w = rw (← e) w
 
-  pub set-clipped : (t : Step) (g : NumberSet) → ofStepped t (membersOf g) ≡ exactly 9 readSet at (slice at stop s) → ofStepped t (membersOf g) ≡ exactly 9 readSet at (slice at end s)
+  pub set-clipped : (t : Fit) (g : NumberSet) → ofFit t (membersOf g) ≡ exactly 9 readSet at (slice at stop s) → ofFit t (membersOf g) ≡ exactly 9 readSet at (slice at end s)
   set-clipped t g w = rw (← e) w
 
-  pub root-clipped : (h : Bool) (r : Root) → ofTrust r ≡ exactly 9 (readRoot asPlace h) at (slice at stop s) → ofTrust r ≡ exactly 9 (readRoot asPlace h) at (slice at end s)
+  pub root-clipped : (h : Bool) (r : RootContent) → ofRootContent r ≡ exactly 9 (readRoot asPlace h) at (slice at stop s) → ofRootContent r ≡ exactly 9 (readRoot asPlace h) at (slice at end s)
   root-clipped h r w = rw (← e) w
 
   pub element-clipped : (r : Element) → ofElement s stop r ≡ opened at (slice at stop s) → ofElement s end r ≡ opened at (slice at end s)

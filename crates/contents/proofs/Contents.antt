@@ -28,26 +28,21 @@ use Rattle.records.specs.declared.RootOfTrust.{RootOfTrust}
 use Rattle.contents.specs.Leaf.{readNumber, ofNumber, ofNull, ofOctets, NumberInside, OctetsInside}
 use Rattle.contents.specs.Set.{ofSet, PastInside}
 use Rattle.records.specs.Empty.{emptySet, emptyRoot}
-use Rattle.contents.specs.Root.{Trust, trustOf, ofTrust, ofRoot, RootInside}
-use Rattle.contents.specs.Content.{Stored, ofStepped, endStep, contentValue, ofPlain, plainEnd, isPlain, PlainRead}
+use Rattle.contents.specs.Root.{Trust, trustOf, ofRoot, RootInside}
+use Rattle.contents.specs.Content.{Stored, ofFit, refusedSet, ofRootContent, contentValue, ofPlain, plainEnd, isPlain, PlainRead}
 use Rattle.records.specs.Slots.{SetInSlots}
 use Rattle.records.specs.Clear.{SpareClear}
-use Rattle.contents.specs.Kept.{StepSlots, RootKept}
+use Rattle.contents.specs.Kept.{StepSlots, FitSlots, RootKept}
 use Rattle.contents.specs.declared.leaf.Number.{Number}
 use Rattle.contents.specs.declared.leaf.Octets.{Octets}
 use Rattle.contents.specs.declared.root.Root.{Root}
 use Rattle.contents.specs.declared.set.Step.{Step}
 use Rattle.contents.specs.declared.content.Plain.{Plain}
+use Rattle.contents.specs.declared.content.Fit.{Fit}
+use Rattle.contents.specs.declared.content.SetContent.{SetContent}
+use Rattle.contents.specs.declared.content.RootContent.{RootContent}
 use Rattle.contents.proofs.Exact.{exact-no, exact-extra, exact-whole, exact-is}
 use Rattle.contents.proofs.Members.{number-inside}
-
-pub end-past : (x end : ℕ) → x ≡ end → Step.Past x ≡ endStep x end
-unfolding pick
-end-past x end h = rw (eq-eqb x end h) refl
-
-pub end-extra : (x end : ℕ) → (x ≡ end → ⊥) → Step.Refused 9 x ≡ endStep x end
-unfolding pick
-end-extra x end h = rw (ne-eqb x end h) refl
 
 pub plain-past : (v z x end : ℕ) → x ≡ end → Plain.Is v z ≡ plainEnd v z x end
 unfolding pick
@@ -60,13 +55,13 @@ plain-extra v z x end h = rw (ne-eqb x end h) refl
 -- ---- a plain content, exactly
 
 module _ {A : Type 0} (rd : ℕ → List ℕ → Answer (Taken A)) (s : List ℕ) (at end : ℕ) (fit : end ≤ length s) (f : ℕ → ℕ → A) where
-  as-step : (b : Bool) (v z x : ℕ) → ofPlain f (pick b (Plain.Is v z) (Plain.Refused 9 x)) ≡ ofStepped (pick b (Step.Past x) (Step.Refused 9 x)) (f v z)
+  as-picked : (b : Bool) (v z x : ℕ) → ofPlain f (pick b (Plain.Is v z) (Plain.Refused 9 x)) ≡ pick b (got (f v z)) (refused 9 x)
   unfolding pick
-  as-step true v z x = refl
-  as-step false v z x = refl
+  as-picked true v z x = refl
+  as-picked false v z x = refl
 
   plain-exact : (v z x : ℕ) (r : Plain) → rd at (slice at end s) ≡ got (taken (f v z) x (slice x end s)) → x ≤ end → r ≡ plainEnd v z x end → ofPlain f r ≡ exactly 9 rd at (slice at end s)
-  plain-exact v z x r e h q = rw q (as-step (eqb x end) v z x ∙ exact-is rd s at end fit (f v z) x e h)
+  plain-exact v z x r e h q = rw q (as-picked (eqb x end) v z x ∙ exact-is rd s at end fit (f v z) x e h)
 
 module _ (s : List ℕ) (at end : ℕ) (fit : end ≤ length s) where
   module _ (top : ℕ) (r : Number) (e : ofNumber s end r ≡ readNumber 2 top at (slice at end s)) where
@@ -98,21 +93,24 @@ module _ (s : List ℕ) (at end : ℕ) (fit : end ≤ length s) (t : Step) (g : 
   pub set-content-no : (k p : ℕ) → t ≡ Step.Refused k p → refused k p ≡ exactly 9 readSet at (slice at end s)
   set-content-no k p w = sym (exact-no readSet s at end fit k p (sym (rw w at e)))
 
-  pub set-content-is : (x : ℕ) (u : Step) → PastInside at end t → t ≡ Step.Past x → u ≡ endStep x end → ofStepped u (membersOf g) ≡ exactly 9 readSet at (slice at end s)
-  set-content-is x u i w q =
-      let j : (at < x) × (x ≤ end) = subst (PastInside at end) w i in
-      rw q (exact-is readSet s at end fit (membersOf g) x (sym (rw w at e)) (j .1))
+  module _ (x : ℕ) (i : PastInside at end t) (w : t ≡ Step.Past x) where
+    pub set-content-is : x ≡ end → got (membersOf g) ≡ exactly 9 readSet at (slice at end s)
+    set-content-is h = sym (exact-whole readSet s at end fit (membersOf g) x (sym (rw w at e)) h)
 
-pub set-at-slots : (x end : ℕ) (t u : Step) (g : NumberSet) → StepSlots t g → t ≡ Step.Past x → u ≡ endStep x end → StepSlots u g
-unfolding pick
-set-at-slots x end t u g i w q = rw q (go (eqb x end))
-  where
-    j : SetInSlots g × SpareClear g
-    j = subst (λ (y : Step). StepSlots y g) w i
+    pub set-extra : (x ≡ end → ⊥) → refused 9 x ≡ exactly 9 readSet at (slice at end s)
+    set-extra h =
+        let j : (at < x) × (x ≤ end) = subst (PastInside at end) w i in
+        sym (exact-extra readSet s at end fit (membersOf g) x (sym (rw w at e)) (omega (arith, j .1)))
 
-    go : (b : Bool) → StepSlots (pick b (Step.Past x) (Step.Refused 9 x)) g
-    go true = j
-    go false = tt
+-- beside a refusal stands an empty set
+pub refused-fit : (k p : ℕ) (M : Answer (List ℕ)) (r : SetContent) → r ≡ refusedSet k p → refused k p ≡ M → ofFit (r .fit) (membersOf (r .set)) ≡ M
+refused-fit k p M r e w = rw e w
+
+pub refused-slots : (k p : ℕ) (r : SetContent) → r ≡ refusedSet k p → FitSlots (r .fit) (r .set)
+refused-slots k p r e = rw e refl
+
+pub past-slots : (x : ℕ) (t : Step) (g : NumberSet) → StepSlots t g → t ≡ Step.Past x → SetInSlots g × SpareClear g
+past-slots x t g i w = subst (λ (y : Step). StepSlots y g) w i
 
 module _ (s : List ℕ) (at end : ℕ) (fit : end ≤ length s) (hash : Bool) (r : Root) (e : ofRoot s end r ≡ readRoot asPlace hash at (slice at end s)) where
   pub root-content-no : (k p : ℕ) → r ≡ Root.Refused k p → refused k p ≡ exactly 9 (readRoot asPlace hash) at (slice at end s)
@@ -127,10 +125,23 @@ module _ (s : List ℕ) (at end : ℕ) (fit : end ≤ length s) (hash : Bool) (r
         let j = subst (RootInside at end hash) w i in
         sym (exact-extra (readRoot asPlace hash) s at end fit (trustOf t) x (sym (rw w at e)) (omega (arith, j .1 .0)))
 
-pub root-at-kept : (n at end x : ℕ) (hash : Bool) (r : Root) (t : RootOfTrust) → end ≤ n → RootInside at end hash r → r ≡ Root.Is t x → RootKept n hash (Root.Is t x)
+pub root-at-kept : (n at end x : ℕ) (hash : Bool) (r : Root) (t : RootOfTrust) → end ≤ n → RootInside at end hash r → r ≡ Root.Is t x → RootKept n hash (RootContent.Is t)
 root-at-kept n at end x hash r t h i w = let j = subst (RootInside at end hash) w i in ((omega (arith, j .1 .1 .0 .0), omega (arith, j .1 .1 .0 .1)), j .1 .1 .1)
 
 -- ---- by the kind
+
+pub not-plain : (k : Kind) → OneOf (0 ∷ 5 ∷ []) (tagOf kinds.the-type k) → isPlain (ofKind k) ≡ false
+unfolding isPlain
+not-plain Kind.Set o = refl
+not-plain Kind.Root o = refl
+not-plain Kind.Number32 (inl q) = absurd (omega arith)
+not-plain Kind.Number32 (inr q) = absurd (omega arith)
+not-plain Kind.Number64 (inl q) = absurd (omega arith)
+not-plain Kind.Number64 (inr q) = absurd (omega arith)
+not-plain Kind.Null (inl q) = absurd (omega arith)
+not-plain Kind.Null (inr q) = absurd (omega arith)
+not-plain Kind.Octets (inl q) = absurd (omega arith)
+not-plain Kind.Octets (inr q) = absurd (omega arith)
 
 abbrev pub setStored : NumberSet → Stored
 setStored g = record { value = 0; size = 0; set = g; root = emptyRoot }
@@ -138,10 +149,10 @@ setStored g = record { value = 0; size = 0; set = g; root = emptyRoot }
 abbrev pub rootStored : RootOfTrust → Stored
 rootStored r = record { value = 0; size = 0; set = emptySet; root = r }
 
-stepped : {A B : Type 0} (f : A → B) (t : Step) (a : A) (M : Answer A) → ofStepped t a ≡ M → ofStepped t (f a) ≡ bind M (λ a. got (f a))
+fitted : {A B : Type 0} (f : A → B) (t : Fit) (a : A) (M : Answer A) → ofFit t a ≡ M → ofFit t (f a) ≡ bind M (λ a. got (f a))
 unfolding bind
-stepped f (Step.Past x) a M e = rw (← e) refl
-stepped f (Step.Refused k p) a M e = rw (← e) refl
+fitted f Fit.Whole a M e = rw (← e) refl
+fitted f (Fit.Refused k p) a M e = rw (← e) refl
 
 plainly : {A B : Type 0} (h : A → B) (f : ℕ → ℕ → A) (r : Plain) (M : Answer A) → ofPlain f r ≡ M → ofPlain (λ v z. h (f v z)) r ≡ bind M (λ a. got (h a))
 unfolding bind
@@ -150,48 +161,42 @@ plainly h f (Plain.Refused k p) M e = rw (← e) refl
 
 module _ (s : List ℕ) (at end : ℕ) (r : Plain) where
   pub as-number32 : (k : Kind) → k ≡ Kind.Number32 → ofPlain (λ v z. v) r ≡ exactly 9 (readNumber 2 top32) at (slice at end s) → PlainRead (ofKind k) at (slice at end s) r
-  unfolding contentValue readValue under readInteger readNumber
-  as-number32 k q e y v p = rw q (plainly num (λ v z. v) r _ e)
+  unfolding contentValue readValue under readInteger readNumber isPlain
+  as-number32 k q e = record { is = λ y v p. rw q (plainly num (λ v z. v) r _ e); none = λ y. absurd (true≢false (rw q at y)) }
 
   pub as-number64 : (k : Kind) → k ≡ Kind.Number64 → ofPlain (λ v z. v) r ≡ exactly 9 (readNumber 2 top64) at (slice at end s) → PlainRead (ofKind k) at (slice at end s) r
-  unfolding contentValue readValue under readInteger readNumber
-  as-number64 k q e y v p = rw q (plainly num (λ v z. v) r _ e)
+  unfolding contentValue readValue under readInteger readNumber isPlain
+  as-number64 k q e = record { is = λ y v p. rw q (plainly num (λ v z. v) r _ e); none = λ y. absurd (true≢false (rw q at y)) }
 
   pub as-null : (k : Kind) → k ≡ Kind.Null → ofPlain (λ v z. tt) r ≡ exactly 9 readNull at (slice at end s) → PlainRead (ofKind k) at (slice at end s) r
-  unfolding contentValue readValue under
-  as-null k q e y v p = rw q (plainly (λ (u : Unit {0}). nul) (λ v z. tt) r _ e)
-
-  pub as-octets : (k : Kind) → OneOf (0 ∷ 4 ∷ 5 ∷ []) (tagOf kinds.the-type k) → ofPlain placeAt r ≡ exactly 9 (readOctets asPlace) at (slice at end s) → PlainRead (ofKind k) at (slice at end s) r
   unfolding contentValue readValue under isPlain
-  as-octets Kind.Octets o e y v p = plainly oct placeAt r _ e
-  as-octets Kind.Set o e y v p = absurd (true≢false (sym y))
-  as-octets Kind.Root o e y v p = absurd (true≢false (sym y))
-  as-octets Kind.Number32 (inl q) e y v p = absurd (omega arith)
-  as-octets Kind.Number32 (inr (inl q)) e y v p = absurd (omega arith)
-  as-octets Kind.Number32 (inr (inr q)) e y v p = absurd (omega arith)
-  as-octets Kind.Number64 (inl q) e y v p = absurd (omega arith)
-  as-octets Kind.Number64 (inr (inl q)) e y v p = absurd (omega arith)
-  as-octets Kind.Number64 (inr (inr q)) e y v p = absurd (omega arith)
-  as-octets Kind.Null (inl q) e y v p = absurd (omega arith)
-  as-octets Kind.Null (inr (inl q)) e y v p = absurd (omega arith)
-  as-octets Kind.Null (inr (inr q)) e y v p = absurd (omega arith)
+  as-null k q e = record { is = λ y v p. rw q (plainly (λ (u : Unit {0}). nul) (λ v z. tt) r _ e); none = λ y. absurd (true≢false (rw q at y)) }
+
+  pub as-octets : (k : Kind) → k ≡ Kind.Octets → ofPlain placeAt r ≡ exactly 9 (readOctets asPlace) at (slice at end s) → PlainRead (ofKind k) at (slice at end s) r
+  unfolding contentValue readValue under isPlain
+  as-octets k q e = record { is = λ y v p. rw q (plainly oct placeAt r _ e); none = λ y. absurd (true≢false (rw q at y)) }
+
+-- a set and 704
+module _ (s : List ℕ) (at : ℕ) where
+  pub as-none : (k : Kind) → OneOf (0 ∷ 5 ∷ []) (tagOf kinds.the-type k) → PlainRead (ofKind k) at s (Plain.Refused 9 at)
+  as-none k o = record { is = λ y. absurd (true≢false (sym y ∙ not-plain k o)); none = λ y. refl }
 
 module _ (s : List ℕ) (at end : ℕ) where
-  pub as-set : (k : Kind) → k ≡ Kind.Set → (t : Step) (g : NumberSet) → ofStepped t (membersOf g) ≡ exactly 9 readSet at (slice at end s)
-      → (v p : ℕ) → ofStepped t (contentValue (ofKind k) (setStored g)) ≡ readValue asPlace v (ofKind k) p at (slice at end s)
+  pub as-set : (k : Kind) → k ≡ Kind.Set → (t : Fit) (g : NumberSet) → ofFit t (membersOf g) ≡ exactly 9 readSet at (slice at end s)
+      → (v p : ℕ) → ofFit t (contentValue (ofKind k) (setStored g)) ≡ readValue asPlace v (ofKind k) p at (slice at end s)
   unfolding contentValue readValue under
-  as-set k q t g e v p = rw q (stepped nums t (membersOf g) _ e)
+  as-set k q t g e v p = rw q (fitted nums t (membersOf g) _ e)
 
-  abbrev ofRootStored : table.Kind → Root → Answer (ValueWith Place)
-  ofRootStored k (Root.Is t x) = got (contentValue k (rootStored t))
-  ofRootStored k (Root.Refused n p) = refused n p
+  abbrev ofRootStored : table.Kind → RootContent → Answer (ValueWith Place)
+  ofRootStored k (RootContent.Is t) = got (contentValue k (rootStored t))
+  ofRootStored k (RootContent.Refused n p) = refused n p
 
-  trusted : (r : Root) (M : Answer Trust) → ofTrust r ≡ M → ofRootStored table.root r ≡ bind M (λ (t : Trust). got (trust (decode.rootFrom t)))
+  trusted : (r : RootContent) (M : Answer Trust) → ofRootContent r ≡ M → ofRootStored table.root r ≡ bind M (λ (t : Trust). got (trust (decode.rootFrom t)))
   unfolding bind contentValue
-  trusted (Root.Is t x) M e = rw (← e) refl
-  trusted (Root.Refused k p) M e = rw (← e) refl
+  trusted (RootContent.Is t) M e = rw (← e) refl
+  trusted (RootContent.Refused k p) M e = rw (← e) refl
 
-  pub as-root : (k : Kind) → k ≡ Kind.Root → (v p : ℕ) (r : Root) → ofTrust r ≡ exactly 9 (readRoot asPlace (leb 3 v)) at (slice at end s) → ofRootStored (ofKind k) r ≡ readValue asPlace v (ofKind k) p at (slice at end s)
+  pub as-root : (k : Kind) → k ≡ Kind.Root → (v p : ℕ) (r : RootContent) → ofRootContent r ≡ exactly 9 (readRoot asPlace (leb 3 v)) at (slice at end s) → ofRootStored (ofKind k) r ≡ readValue asPlace v (ofKind k) p at (slice at end s)
   unfolding contentValue readValue under table.hashed
   as-root k q v p r e = rw q (trusted r _ e)
 

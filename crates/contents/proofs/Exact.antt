@@ -4,6 +4,7 @@ use mathlib.Core.Path.{_≡_, refl, sym}
 use mathlib.Core.List.{List, []}
 use Prim.Native.Nat.{ℕ, _<_, _≤_}
 use native.Mathlib.Omega.{arith}
+use lib.Dec.{eqb}
 use lib.ListN.{length}
 use lib.Seq.{slice, slice-empty, length-slice}
 use borrow.Author.Tests.{eq-eqb, ne-eqb}
@@ -11,7 +12,6 @@ use Rattle.answer.specs.Answer.{Answer, got, refused, guard, bind, pick}
 use Rattle.answer.proofs.Logic.{by-le}
 use Rattle.codec.specs.Octets.{Taken, taken}
 use Rattle.codec.specs.Element.{exactly}
-use Rattle.contents.specs.Content.{ofStepped, endStep}
 
 module _ {A : Type 0} (rd : ℕ → List ℕ → Answer (Taken A)) (p : ℕ) where
   pub exactly-no : (bs : List ℕ) (k q : ℕ) → rd p bs ≡ refused k q → exactly 9 rd p bs ≡ refused k q
@@ -37,8 +37,8 @@ module _ {A : Type 0} (rd : ℕ → List ℕ → Answer (Taken A)) (s : List ℕ
   pub exact-whole : (a : A) (x : ℕ) → rd at (slice at end s) ≡ got (taken a x (slice x end s)) → x ≡ end → exactly 9 rd at (slice at end s) ≡ got a
   exact-whole a x e h = exactly-is rd at s end a x e h
 
-  -- as the code's step has it
-  pub exact-is : (a : A) (x : ℕ) → rd at (slice at end s) ≡ got (taken a x (slice x end s)) → x ≤ end → ofStepped (endStep x end) a ≡ exactly 9 rd at (slice at end s)
+  -- the element is all, or something follows it
+  pub exact-is : (a : A) (x : ℕ) → rd at (slice at end s) ≡ got (taken a x (slice x end s)) → x ≤ end → pick (eqb x end) (got a) (refused 9 x) ≡ exactly 9 rd at (slice at end s)
   unfolding pick
   exact-is a x e h =
       by-le end x

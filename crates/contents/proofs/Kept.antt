@@ -2,7 +2,6 @@
 use mathlib.Core.Path.{_≡_, refl, sym, subst, _∙_}
 use mathlib.Core.Bool.{Bool, true, false}
 use mathlib.Core.List.{[], _∷_}
-use mathlib.Core.Logic.{inl, inr}
 use Prim.Native.Nat.{ℕ, _+_, _≤_}
 use native.Mathlib.Omega.{arith}
 use denote.Enum.Declared.{tagOf}
@@ -19,13 +18,14 @@ use Rattle.records.specs.Clear.{SpareClear, HashClear}
 use Rattle.records.specs.declared.NumberSet.{NumberSet}
 use Rattle.records.specs.declared.RootOfTrust.{RootOfTrust}
 use Rattle.contents.specs.Leaf.{OctetsInside}
-use Rattle.contents.specs.Content.{plainContent, plainEnd, isPlain}
+use Rattle.contents.specs.Content.{plainContent, plainEnd}
 use Rattle.contents.specs.Root.{HashedAs, PartsIn}
-use Rattle.contents.specs.Kept.{StepSlots, ContentIn, PlainIn, PlainKept, RootKept}
-use Rattle.contents.specs.declared.set.Step.{Step}
+use Rattle.contents.specs.Kept.{FitSlots, ContentIn, PlainIn, PlainKept, RootKept}
+use Rattle.contents.specs.declared.content.Fit.{Fit}
+use Rattle.contents.specs.declared.content.RootContent.{RootContent}
 use Rattle.contents.specs.declared.leaf.Octets as leaf
-use Rattle.contents.specs.declared.root.Root as roots
 use Rattle.contents.specs.declared.content.Plain.{Plain}
+use Rattle.contents.proofs.Contents.{not-plain}
 
 pub empty-spare : SpareClear emptySet
 empty-spare k p q = getD-replicate {A = ℕ} 16 k 0 0 q
@@ -65,13 +65,13 @@ module _ (n : ℕ) where
       let j = subst (OctetsInside at end) w i in
       rw e (at-end-in true true (eqb x end) b m x (plain-in true true b m (λ q. absurd (differ q)) (λ q. absurd (differ q)) (λ q. omega (arith, j .1 .1))))
 
-  pub set-in : (x : ℕ) (t : Step) (g : NumberSet) → StepSlots t g → t ≡ Step.Past x → ContentIn false false n (record { value = 0; size = 0; set = g; root = emptyRoot })
-  set-in x t g i w =
-      let j : SetInSlots g × SpareClear g = subst (λ (y : Step). StepSlots y g) w i in
+  pub set-in : (t : Fit) (g : NumberSet) → FitSlots t g → t ≡ Fit.Whole → ContentIn false false n (record { value = 0; size = 0; set = g; root = emptyRoot })
+  set-in t g i w =
+      let j : SetInSlots g × SpareClear g = subst (λ (y : Fit). FitSlots y g) w i in
       record { set = j .0; spare = j .1; root = (omega arith, omega arith); hash = λ q. refl; noValue = λ q. refl; noSize = λ q. refl; octet = λ q. omega arith }
 
-  pub root-in : (h : Bool) (t : RootOfTrust) (x : ℕ) (r : roots.Root) → RootKept n h r → r ≡ roots.Root.Is t x → ContentIn false false n (record { value = 0; size = 0; set = emptySet; root = t })
-  root-in h t x r i w =
+  pub root-in : (h : Bool) (t : RootOfTrust) (r : RootContent) → RootKept n h r → r ≡ RootContent.Is t → ContentIn false false n (record { value = 0; size = 0; set = emptySet; root = t })
+  root-in h t r i w =
       let j : PartsIn n t × HashedAs h t = subst (RootKept n h) w i in
       record { set = (omega arith, refl); spare = empty-spare; root = j .0; hash = hash-clear h t (j .1); noValue = λ q. refl; noSize = λ q. refl; octet = λ q. omega arith }
 
@@ -86,17 +86,8 @@ module _ (n : ℕ) where
     pub in-null : k ≡ Kind.Null → PlainIn false false n r → PlainKept (ofKind k) n r
     in-null w p y = rw w p
 
-  pub in-octets : (r : Plain) (k : Kind) → OneOf (0 ∷ 4 ∷ 5 ∷ []) (tagOf kinds.the-type k) → PlainIn true true n r → PlainKept (ofKind k) n r
-  unfolding isPlain
-  in-octets r Kind.Octets o p y = p
-  in-octets r Kind.Set o p y = absurd (differ (sym y))
-  in-octets r Kind.Root o p y = absurd (differ (sym y))
-  in-octets r Kind.Number32 (inl q) p y = absurd (omega arith)
-  in-octets r Kind.Number32 (inr (inl q)) p y = absurd (omega arith)
-  in-octets r Kind.Number32 (inr (inr q)) p y = absurd (omega arith)
-  in-octets r Kind.Number64 (inl q) p y = absurd (omega arith)
-  in-octets r Kind.Number64 (inr (inl q)) p y = absurd (omega arith)
-  in-octets r Kind.Number64 (inr (inr q)) p y = absurd (omega arith)
-  in-octets r Kind.Null (inl q) p y = absurd (omega arith)
-  in-octets r Kind.Null (inr (inl q)) p y = absurd (omega arith)
-  in-octets r Kind.Null (inr (inr q)) p y = absurd (omega arith)
+    pub in-octets : k ≡ Kind.Octets → PlainIn true true n r → PlainKept (ofKind k) n r
+    in-octets w p y = rw w p
+
+    pub in-none : OneOf (0 ∷ 5 ∷ []) (tagOf kinds.the-type k) → PlainKept (ofKind k) n r
+    in-none o y = absurd (differ (sym y ∙ not-plain k o))

@@ -12,7 +12,10 @@ use Rattle.records.specs.Content.{membersOf, rootOf}
 use Rattle.records.specs.declared.NumberSet.{NumberSet}
 use Rattle.records.specs.declared.RootOfTrust.{RootOfTrust}
 use Rattle.records.specs.Empty.{emptySet, emptyRoot}
-use Rattle.contents.specs.declared.set.Step.{Step}
+use Rattle.contents.specs.Root.{Trust, trustOf}
+use Rattle.contents.specs.declared.content.Fit.{Fit}
+use Rattle.contents.specs.declared.content.SetContent.{SetContent}
+use Rattle.contents.specs.declared.content.RootContent.{RootContent}
 use Rattle.contents.specs.declared.content.Plain.{Plain}
 
 -- a field's content, whatever its kind, as a list keeps it: a number; or a part of the bytes, its start in value; or a set; or
@@ -23,14 +26,19 @@ pub record Stored : Type 0 where
   pub set : NumberSet
   pub root : RootOfTrust
 
--- the value, where the step is past it
-abbrev pub ofStepped : {A : Type 0} → Step → A → Answer A
-ofStepped (Step.Past x) a = got a
-ofStepped (Step.Refused k p) a = refused k p
+-- the value, of a content that is right and ends where its holder does
+abbrev pub ofFit : {A : Type 0} → Fit → A → Answer A
+ofFit Fit.Whole a = got a
+ofFit (Fit.Refused k p) a = refused k p
 
--- past, where nothing follows; else an extra element there
-abbrev pub endStep : ℕ → ℕ → Step
-endStep next end = pick (eqb next end) (Step.Past next) (Step.Refused 9 next)
+-- beside a refusal stands an empty set
+abbrev pub refusedSet : ℕ → ℕ → SetContent
+refusedSet k p = record { fit = Fit.Refused k p; set = emptySet }
+
+-- 704's content
+abbrev pub ofRootContent : RootContent → Answer Trust
+ofRootContent (RootContent.Is r) = got (trustOf r)
+ofRootContent (RootContent.Refused k p) = refused k p
 
 -- a content that is a number or a start v, and a length z
 abbrev pub plainContent : ℕ → ℕ → Stored
@@ -65,6 +73,7 @@ isPlain octets = true
 isPlain set = false
 isPlain root = false
 
--- it is what is read there, in every version
-abbrev pub PlainRead : Kind → ℕ → List ℕ → Plain → Type 0
-PlainRead kind at s r = isPlain kind ≡ true → (v p : ℕ) → ofPlain (λ n z. contentValue kind (plainContent n z)) r ≡ readValue asPlace v kind p at s
+-- it is what is read there, in every version; a set and 704 are no plain content, and refused as wrong elements
+pub record PlainRead (kind : Kind) (at : ℕ) (s : List ℕ) (r : Plain) : Type 0 where
+  pub is : isPlain kind ≡ true → (v p : ℕ) → ofPlain (λ n z. contentValue kind (plainContent n z)) r ≡ readValue asPlace v kind p at s
+  pub none : isPlain kind ≡ false → r ≡ Plain.Refused 9 at

@@ -5,12 +5,14 @@ use mathlib.Core.Bool.{Bool, true, false}
 use Prim.Native.Nat.{ℕ, _+_, _≤_}
 use Rattle.schema.specs.Table.{Kind}
 use Rattle.records.specs.Slots.{SetInSlots}
+use Rattle.records.specs.Empty.{emptySet}
 use Rattle.records.specs.Clear.{usesValue, usesSize, SpareClear, HashClear}
 use Rattle.records.specs.declared.NumberSet.{NumberSet}
 use Rattle.contents.specs.Root.{HashedAs, PartsIn}
 use Rattle.contents.specs.Content.{Stored, plainContent, isPlain}
 use Rattle.contents.specs.declared.set.Step.{Step}
-use Rattle.contents.specs.declared.root.Root.{Root}
+use Rattle.contents.specs.declared.content.Fit.{Fit}
+use Rattle.contents.specs.declared.content.RootContent.{RootContent}
 use Rattle.contents.specs.declared.content.Plain.{Plain}
 
 -- a set that was read
@@ -32,6 +34,11 @@ pub record ContentIn (value size : Bool) (n : ℕ) (c : Stored) : Type 0 where
 abbrev pub ContentKept : Kind → ℕ → Stored → Type 0
 ContentKept k n c = ContentIn (usesValue k) (usesSize k) n c
 
+-- a set that is all of its holder's content
+abbrev pub FitSlots : Fit → NumberSet → Type 0
+FitSlots Fit.Whole g = SetInSlots g × SpareClear g
+FitSlots (Fit.Refused k p) g = g ≡ emptySet
+
 -- the same of the code's answers
 abbrev pub PlainIn : Bool → Bool → ℕ → Plain → Type 0
 PlainIn value size n (Plain.Is v z) = ContentIn value size n (plainContent v z)
@@ -40,6 +47,6 @@ PlainIn value size n (Plain.Refused k p) = Unit {0}
 abbrev pub PlainKept : Kind → ℕ → Plain → Type 0
 PlainKept k n r = isPlain k ≡ true → PlainIn (usesValue k) (usesSize k) n r
 
-abbrev pub RootKept : ℕ → Bool → Root → Type 0
-RootKept n h (Root.Is t x) = PartsIn n t × HashedAs h t
-RootKept n h (Root.Refused k p) = Unit {0}
+abbrev pub RootKept : ℕ → Bool → RootContent → Type 0
+RootKept n h (RootContent.Is t) = PartsIn n t × HashedAs h t
+RootKept n h (RootContent.Refused k p) = Unit {0}

@@ -6,13 +6,15 @@ use crate::leaf::read_null;
 use crate::leaf::read_octets;
 use crate::root::Root;
 use crate::root::read_root;
-use crate::set::SetRead;
 use crate::set::Step;
+use crate::set::empty_set;
 use crate::set::one_member;
 use crate::set::read_set;
 use crate::set::set_of_one;
 use answer::WRONG_ELEMENT;
 use der::header::clipped;
+use records::NumberSet;
+use records::RootOfTrust;
 use schema::Kind;
 ghost use mathlib.Core.Path.{_≡_};
 ghost use mathlib.Core.Bool.{true, false};
@@ -25,9 +27,8 @@ ghost use Rattle.schema.specs.Content.{placeAt};
 ghost use Rattle.schema.specs.Decode.{readOctets, readNull, readSet, readRoot, asPlace};
 ghost use Rattle.records.specs.Content.{membersOf};
 ghost use Rattle.contents.specs.Leaf.{readNumber};
-ghost use Rattle.contents.specs.Root.{ofTrust};
-ghost use Rattle.contents.specs.Content.{ofStepped, endStep, ofPlain, plainEnd, PlainRead};
-ghost use Rattle.contents.specs.Kept.{StepSlots, RootKept, PlainIn, PlainKept};
+ghost use Rattle.contents.specs.Content.{ofFit, refusedSet, ofRootContent, ofPlain, plainEnd, PlainRead};
+ghost use Rattle.contents.specs.Kept.{FitSlots, RootKept, PlainIn, PlainKept};
 
 // A plain field's content: a number; or a part of the bytes, its start and its length; or neither, of a NULL; or a refusal
 // with its place.
@@ -80,7 +81,7 @@ fn octets_content(s: &[u8], at: usize, end: usize) -> Plain
     }
 }
 
-// The content of a plain field, by its kind: any but a set and 704.
+// The content of a plain field, by its kind; a set and 704 are none.
 fn plain_at(s: &[u8], at: usize, end: usize, kind: Kind) -> Plain
     requires { ⌜ end ≤ length (now s) ⌝ }
     ensures is { λ r. ⌜ PlainRead (ofKind kind) at (slice at end (now (s .entry))) r ⌝ }
@@ -90,69 +91,89 @@ fn plain_at(s: &[u8], at: usize, end: usize, kind: Kind) -> Plain
         Kind::Number32 => number_content(s, at, end, 0xffff_ffff),
         Kind::Number64 => number_content(s, at, end, 0xffff_ffff_ffff_ffff),
         Kind::Null => null_content(s, at, end),
-        _ => octets_content(s, at, end),
+        Kind::Octets => octets_content(s, at, end),
+        _ => Plain::Refused(WRONG_ELEMENT, at),
     }
 }
 
-// Past a content that ends where its holder does.
-fn at_end(next: usize, end: usize) -> Step
-    ensures { λ r. ⌜ r ≡ endStep next end ⌝ }
+// Whether a content ends where its holder does, and is right; or a refusal with its place.
+pub enum Fit {
+    Whole,
+    Refused(u8, usize),
+}
+
+// A set that is all of its holder's content; beside a refusal stands an empty one.
+pub struct SetContent {
+    pub fit: Fit,
+    pub set: NumberSet,
+}
+
+fn refused_set(number: u8, place: usize) -> SetContent
+    ensures { λ r. ⌜ r ≡ refusedSet number place ⌝ }
 {
-    if next == end {
-        return Step::Past(next);
+    SetContent {
+        fit: Fit::Refused(number, place),
+        set: empty_set(),
     }
-    Step::Refused(WRONG_ELEMENT, next)
 }
 
 // A set, whatever it holds.
-fn long_set(s: &[u8], at: usize, end: usize) -> SetRead
+fn long_set(s: &[u8], at: usize, end: usize) -> SetContent
     requires { ⌜ end ≤ length (now s) ⌝ }
-    ensures is { λ r. ⌜ ofStepped (r .step) (membersOf (r .set)) ≡ exactly 9 readSet at (slice at end (now (s .entry))) ⌝ }
-    ensures slots { λ r. ⌜ StepSlots (r .step) (r .set) ⌝ }
+    ensures is { λ r. ⌜ ofFit (r .fit) (membersOf (r .set)) ≡ exactly 9 readSet at (slice at end (now (s .entry))) ⌝ }
+    ensures slots { λ r. ⌜ FitSlots (r .fit) (r .set) ⌝ }
 {
     let got = read_set(s, at, end);
     let set = got.set;
     let step = got.step;
     match step {
-        Step::Refused(k, place) => SetRead {
-            step: Step::Refused(k, place),
-            set,
-        },
-        Step::Past(next) => SetRead {
-            step: at_end(next, end),
-            set,
-        },
+        Step::Refused(k, place) => refused_set(k, place),
+        Step::Past(next) => {
+            if next != end {
+                return refused_set(WRONG_ELEMENT, next);
+            }
+            SetContent {
+                fit: Fit::Whole,
+                set,
+            }
+        }
     }
 }
 
 // A set; most hold one small number.
-fn set_at(s: &[u8], at: usize, end: usize) -> SetRead
+fn set_at(s: &[u8], at: usize, end: usize) -> SetContent
     requires { ⌜ (at ≤ end) × (end ≤ length (now s)) ⌝ }
-    ensures is { λ r. ⌜ ofStepped (r .step) (membersOf (r .set)) ≡ exactly 9 readSet at (slice at end (now (s .entry))) ⌝ }
-    ensures slots { λ r. ⌜ StepSlots (r .step) (r .set) ⌝ }
+    ensures is { λ r. ⌜ ofFit (r .fit) (membersOf (r .set)) ≡ exactly 9 readSet at (slice at end (now (s .entry))) ⌝ }
+    ensures slots { λ r. ⌜ FitSlots (r .fit) (r .set) ⌝ }
 {
     let one = one_member(s, at, end);
     if one < 128 {
-        return SetRead {
-            step: Step::Past(end),
+        return SetContent {
+            fit: Fit::Whole,
             set: set_of_one(one as u32),
         };
     }
     long_set(s, at, end)
 }
 
-fn root_at(s: &[u8], at: usize, end: usize, hashed: bool) -> Root
+// A root of trust that is all of its holder's content; or a refusal with its place.
+pub enum RootContent {
+    Is(RootOfTrust),
+    Refused(u8, usize),
+}
+
+fn root_at(s: &[u8], at: usize, end: usize, hashed: bool) -> RootContent
     requires { ⌜ end ≤ length (now s) ⌝ }
-    ensures is { λ r. ⌜ ofTrust r ≡ exactly 9 (readRoot asPlace hashed) at (slice at end (now (s .entry))) ⌝ }
+    ensures is { λ r. ⌜ ofRootContent r ≡ exactly 9 (readRoot asPlace hashed) at (slice at end (now (s .entry))) ⌝ }
     ensures bounds { λ r. ⌜ RootKept (length (now (s .entry))) hashed r ⌝ }
 {
     match read_root(s, at, end, hashed) {
-        Root::Refused(k, place) => Root::Refused(k, place),
+        Root::Refused(k, place) => RootContent::Refused(k, place),
         Root::Is(root, next) => {
             if next == end {
-                return Root::Is(root, next);
+                return RootContent::Is(root);
             }
-            Root::Refused(WRONG_ELEMENT, next)
+            RootContent::Refused(WRONG_ELEMENT, next)
         }
     }
 }
@@ -166,9 +187,9 @@ pub fn plain_content(s: &[u8], at: usize, end: usize, kind: Kind) -> Plain
     plain_at(s, at, clipped(s, end), kind)
 }
 
-pub fn set_content(s: &[u8], at: usize, end: usize) -> SetRead
-    ensures is { λ r. ⌜ ofStepped (r .step) (membersOf (r .set)) ≡ exactly 9 readSet at (slice at end (now (s .entry))) ⌝ }
-    ensures slots { λ r. ⌜ StepSlots (r .step) (r .set) ⌝ }
+pub fn set_content(s: &[u8], at: usize, end: usize) -> SetContent
+    ensures is { λ r. ⌜ ofFit (r .fit) (membersOf (r .set)) ≡ exactly 9 readSet at (slice at end (now (s .entry))) ⌝ }
+    ensures slots { λ r. ⌜ FitSlots (r .fit) (r .set) ⌝ }
 {
     let stop = clipped(s, end);
     if stop < at {
@@ -177,8 +198,8 @@ pub fn set_content(s: &[u8], at: usize, end: usize) -> SetRead
     set_at(s, at, stop)
 }
 
-pub fn root_content(s: &[u8], at: usize, end: usize, hashed: bool) -> Root
-    ensures is { λ r. ⌜ ofTrust r ≡ exactly 9 (readRoot asPlace hashed) at (slice at end (now (s .entry))) ⌝ }
+pub fn root_content(s: &[u8], at: usize, end: usize, hashed: bool) -> RootContent
+    ensures is { λ r. ⌜ ofRootContent r ≡ exactly 9 (readRoot asPlace hashed) at (slice at end (now (s .entry))) ⌝ }
     ensures bounds { λ r. ⌜ RootKept (length (now (s .entry))) hashed r ⌝ }
 {
     root_at(s, at, clipped(s, end), hashed)

@@ -18,7 +18,7 @@ ghost use Rattle.schema.specs.Decode.{readRoot, asPlace};
 ghost use Rattle.contents.specs.Root.{ofTrust, ofRoot, trustFrom, lockedFrom, stateFrom, hashFrom, rootEnd, RootAt, RootInside};
 
 // A root of trust and the next place; or a refusal with its place.
-pub enum Root {
+pub(crate) enum Root {
     Is(RootOfTrust, usize),
     Refused(u8, usize),
 }

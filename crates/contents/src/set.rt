@@ -22,7 +22,7 @@ pub enum Step {
 }
 
 // A set, and the next place; where it is refused, the members up to there.
-pub struct SetRead {
+pub(crate) struct SetRead {
     pub step: Step,
     pub set: NumberSet,
 }

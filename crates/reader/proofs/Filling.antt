@@ -30,19 +30,19 @@ use Rattle.records.specs.Clear.{usesValue, usesSize}
 use Rattle.records.specs.declared.NumberSet.{NumberSet}
 use Rattle.records.specs.declared.RootOfTrust.{RootOfTrust}
 use Rattle.records.specs.declared.FieldList.{FieldList}
-use Rattle.contents.specs.Content.{Stored, ofStepped, ofPlain, plainContent, contentValue, isPlain, PlainRead}
+use Rattle.contents.specs.Content.{Stored, ofFit, ofRootContent, ofPlain, plainContent, contentValue, isPlain, PlainRead}
 use Rattle.reader.specs.Fields.{FieldAt, FieldOpened}
 use Rattle.contents.specs.Element.{openedAs, ofTagged}
 use Rattle.contents.specs.Set.{PastAt}
 use Rattle.reader.specs.Lists.{withField, fieldsFrom, ofFields, ofList}
 use Rattle.records.specs.Empty.{emptyList}
-use Rattle.contents.specs.Root.{ofTrust}
-use Rattle.contents.specs.Kept.{StepSlots, ContentKept, PlainIn, PlainKept, RootKept}
+use Rattle.contents.specs.Kept.{FitSlots, ContentKept, PlainIn, PlainKept, RootKept}
 use Rattle.reader.specs.Inside.{ListIn}
 use Rattle.contents.specs.declared.element.Tagged.{Tagged}
 use Rattle.contents.proofs.Open.{leaf-no, leaf-is}
 use Rattle.contents.specs.declared.set.Step.{Step}
-use Rattle.contents.specs.declared.root.Root.{Root}
+use Rattle.contents.specs.declared.content.Fit.{Fit}
+use Rattle.contents.specs.declared.content.RootContent.{RootContent}
 use Rattle.reader.specs.declared.fields.FieldHead.{FieldHead}
 use Rattle.contents.specs.declared.content.Plain.{Plain}
 use Rattle.contents.proofs.Chains.{Ahead, ahead-start, ahead-refused, ahead-more, ahead-end}
@@ -135,7 +135,7 @@ module _ (s : List ℕ) (at end v : ℕ) (fit : end ≤ length s) where
 
         plainly : (p : Plain) → isPlain (ofKind (i .kind)) ≡ true → PlainRead (ofKind (i .kind)) b (slice b x s) p
             → ofPlain (λ y z. contentValue (ofKind (i .kind)) (plainContent y z)) p ≡ readValue asPlace v (ofKind (i .kind)) place b (slice b x s)
-        plainly p y a = a y v place
+        plainly p y a = a .is y v place
 
         pub plain-no : (k q : ℕ) (p : Plain) → OneOf (1 ∷ 2 ∷ 3 ∷ 4 ∷ []) (tagOf kinds.the-type (i .kind)) → PlainRead (ofKind (i .kind)) b (slice b x s) p → p ≡ Plain.Refused k q → refused k q ≡ fieldsFrom v at (slice at end s)
         plain-no k q p y a u = content-no k q (rw u at (plainly p (is-plain (i .kind) y) a))
@@ -151,13 +151,13 @@ module _ (s : List ℕ) (at end v : ℕ) (fit : end ≤ length s) where
 
         -- ---- a set, in the place of its row
 
-        module _ (ks : i .kind ≡ codeKind.Set) (u : Step) (m : NumberSet) (a : ofStepped u (membersOf m) ≡ exactly 9 readSet b (slice b x s)) where
-          pub set-no : (k q : ℕ) → u ≡ Step.Refused k q → refused k q ≡ fieldsFrom v at (slice at end s)
+        module _ (ks : i .kind ≡ codeKind.Set) (u : Fit) (m : NumberSet) (a : ofFit u (membersOf m) ≡ exactly 9 readSet b (slice b x s)) where
+          pub set-no : (k q : ℕ) → u ≡ Fit.Refused k q → refused k q ≡ fieldsFrom v at (slice at end s)
           set-no k q z = content-no k q (rw z at (as-set s b x (i .kind) ks u m a v place))
 
-          module _ (y : ℕ) (z : u ≡ Step.Past y) (sl : StepSlots u m) where
+          module _ (z : u ≡ Fit.Whole) (sl : FitSlots u m) where
             set-stored : (j : FieldList) → j ≡ withField l row (setStored m) → Filled s at end v j x (n + 1)
-            set-stored = as-stored (setStored m) (rw z at (as-set s b x (i .kind) ks u m a v place)) (rw ks (set-in (length s) y u m sl z))
+            set-stored = as-stored (setStored m) (rw z at (as-set s b x (i .kind) ks u m a v place)) (rw ks (set-in (length s) u m sl z))
 
             pub set-purpose : row ≡ 0 → Filled s at end v (stored l row 0 0 m (l .digest) (l .padding) (l .mgf) (l .root)) x (n + 1)
             unfolding pick
@@ -180,15 +180,15 @@ module _ (s : List ℕ) (at end v : ℕ) (fit : end ≤ length s) where
 
         -- ---- 704
 
-        module _ (ks : i .kind ≡ codeKind.Root) (u : Root) (a : ofTrust u ≡ exactly 9 (readRoot asPlace (leb 3 v)) b (slice b x s)) where
-          pub root-no : (k q : ℕ) → u ≡ Root.Refused k q → refused k q ≡ fieldsFrom v at (slice at end s)
+        module _ (ks : i .kind ≡ codeKind.Root) (u : RootContent) (a : ofRootContent u ≡ exactly 9 (readRoot asPlace (leb 3 v)) b (slice b x s)) where
+          pub root-no : (k q : ℕ) → u ≡ RootContent.Refused k q → refused k q ≡ fieldsFrom v at (slice at end s)
           root-no k q z = content-no k q (rw z at (as-root s b x (i .kind) ks v place u a))
 
-          pub root-is : (m : RootOfTrust) (y : ℕ) → RootKept (length s) (leb 3 v) u → u ≡ Root.Is m y → Filled s at end v (stored l row 0 0 (l .purpose) (l .digest) (l .padding) (l .mgf) m) x (n + 1)
+          pub root-is : (m : RootOfTrust) → RootKept (length s) (leb 3 v) u → u ≡ RootContent.Is m → Filled s at end v (stored l row 0 0 (l .purpose) (l .digest) (l .padding) (l .mgf) m) x (n + 1)
           unfolding pick
-          root-is m y d z =
+          root-is m d z =
               let q : row ≡ 26 = by-root row (f .inTable) (sym (rw ks at kind)) in
-              as-stored (rootStored m) (rw z at (as-root s b x (i .kind) ks v place u a)) (rw ks (root-in (length s) (leb 3 v) m y u d z)) _ (rw q refl)
+              as-stored (rootStored m) (rw z at (as-root s b x (i .kind) ks v place u a)) (rw ks (root-in (length s) (leb 3 v) m u d z)) _ (rw q refl)
 
   pub filled-in : (l : FieldList) (place low : ℕ) → Filled s at end v l place low → ListIn (length s) l
   filled-in l place low g = g .bounds

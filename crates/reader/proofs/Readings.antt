@@ -8,7 +8,7 @@ use mir.Val.{Fits}
 use mir.Syntax.{w8}
 use lib.ListN.{length, getD}
 use lib.Seq.{slice}
-use Rattle.answer.specs.Answer.{got, refused, guard, bind, pick}
+use Rattle.answer.specs.Answer.{Answer, got, refused, guard, bind, pick}
 use Rattle.schema.specs.Decode.{readList, readPlaces, asPlace}
 use Rattle.records.specs.Content.{placesOf}
 use Rattle.records.specs.Empty.{emptyRecord}
@@ -17,7 +17,6 @@ use Rattle.records.specs.declared.Security.{Security}
 use Rattle.records.specs.declared.Part.{Part}
 use Rattle.records.specs.declared.FieldList.{FieldList}
 use Rattle.contents.specs.Set.{PastInside}
-use Rattle.contents.specs.Content.{ofStepped}
 use Rattle.reader.specs.Lists.{ofList}
 use Rattle.reader.specs.Inside.{ListIn}
 use Rattle.reader.specs.Reading.{Reads}
@@ -41,6 +40,11 @@ reads-no s k p a u e = record {
   sound = refused-sound (length s) k p a u;
   made = refused-made k p a u;
 }
+
+-- the value, where the step is past it
+abbrev ofStepped : {A : Type 0} → Step → A → Answer A
+ofStepped (Step.Past x) a = got a
+ofStepped (Step.Refused k p) a = refused k p
 
 -- 9 and 7 after the second list, as a step
 tests : {A : Type 0} (v : A) (x stop end : ℕ) (b d : Bool)

@@ -2,7 +2,9 @@
 use answer::FIELD_ORDER;
 use answer::NOT_IN_VERSION;
 use answer::WRONG_ELEMENT;
+use contents::content::Fit;
 use contents::content::Plain;
+use contents::content::RootContent;
 use contents::content::plain_content;
 use contents::content::root_content;
 use contents::content::set_content;
@@ -10,7 +12,6 @@ use contents::element::Element;
 use contents::element::Tagged;
 use contents::element::open_element;
 use contents::element::open_tagged;
-use contents::root::Root;
 use contents::set::Step;
 use contents::set::empty_set;
 use der::header::Extent;
@@ -169,15 +170,15 @@ fn read_fields(s: &[u8], at: usize, end: usize, version: u32) -> ListRead
                     Kind::Set => {
                         let content = set_content(s, body, stop);
                         let set = content.set;
-                        let step = content.step;
-                        match step {
-                            Step::Refused(k, fault) => {
+                        let fit = content.fit;
+                        match fit {
+                            Fit::Refused(k, fault) => {
                                 return ListRead {
                                     step: Step::Refused(k, fault),
                                     list,
                                 };
                             }
-                            Step::Past(_) => {
+                            Fit::Whole => {
                                 list.present[row] = true;
                                 list.values[row] = 0;
                                 list.sizes[row] = 0;
@@ -193,13 +194,13 @@ fn read_fields(s: &[u8], at: usize, end: usize, version: u32) -> ListRead
                         }
                     }
                     Kind::Root => match root_content(s, body, stop, 3 <= version) {
-                        Root::Refused(k, fault) => {
+                        RootContent::Refused(k, fault) => {
                             return ListRead {
                                 step: Step::Refused(k, fault),
                                 list,
                             };
                         }
-                        Root::Is(root, _) => {
+                        RootContent::Is(root) => {
                             list.present[row] = true;
                             list.values[row] = 0;
                             list.sizes[row] = 0;

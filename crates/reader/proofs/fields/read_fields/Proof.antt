@@ -41,8 +41,8 @@ enum-told c = search needs
 set-content-requires : tie.Need-set-content-requires Inv-loop μ-loop
 set-content-requires c κs = search needs
 
-enum-known-step : tie.Need-enum-known-step Inv-loop μ-loop
-enum-known-step c = search needs
+enum-known-fit : tie.Need-enum-known-fit Inv-loop μ-loop
+enum-known-fit c = search needs
 
 returns-2 : tie.Need-returns-2 Inv-loop μ-loop
 returns-2 c = (search set-no, (tt, search filled-in))
@@ -136,7 +136,7 @@ loop-again-5 c =
     let row = kind .before .before in
     let opened = row .before .before in
     let loop = opened .before .before in
-    root-is _ _ _ _ (loop .before .before .before .pre .1) _ _ _ (loop .loop .inv) (search needs) _ (opened .open-field .ensures) _ _ _ _ (row .row .given .1) (kind .row-at .result) (kind .row-at .ensures) (search needs) (content .root-content .result) (content .root-content .ensures .0) _ _ (content .root-content .ensures .1) (root .root .given .1)
+    root-is _ _ _ _ (loop .before .before .before .pre .1) _ _ _ (loop .loop .inv) (search needs) _ (opened .open-field .ensures) _ _ _ _ (row .row .given .1) (kind .row-at .result) (kind .row-at .ensures) (search needs) (content .root-content .result) (content .root-content .ensures .0) _ (content .root-content .ensures .1) (root .root .given .1)
 
 plain-content-requires : tie.Need-plain-content-requires Inv-loop μ-loop
 plain-content-requires c κs = search field-fits
@@ -192,7 +192,7 @@ read-fields-spec =
     row-at-requires
     enum-told
     set-content-requires
-    enum-known-step
+    enum-known-fit
     returns-2
     enum-told-2
     element-write-list
