@@ -13,6 +13,7 @@ use Rattle.answer.proofs.Logic.{by-le}
 use Rattle.checks.specs.Tags.{allows}
 use Rattle.checks.specs.Checks.{agreed, digestBytes, keyBytes, signs, expiry, recent, freshRefused}
 use Rattle.checks.specs.Code.{given}
+use Rattle.checks.specs.declared.NumberTag.{NumberTag}
 use Rattle.checks.proofs.Tags.{there-given, allows-given}
 
 -- ---- 32
@@ -62,6 +63,16 @@ module _ (p : ℕ) (b : Bool) (e : b ≡ signs p) (x y : Option ℕ) where
   pub expiry-usage : b ≡ false → y ≡ expiry p x y
   unfolding pick
   expiry-usage t = rw (← e, t) refl
+
+-- the very tag, also what stands in one that is not there
+module _ (p : ℕ) (b : Bool) (e : b ≡ signs p) (x y : NumberTag) where
+  pub tag-origination : b ≡ true → x ≡ pick (signs p) x y
+  unfolding pick
+  tag-origination t = rw (← e, t) refl
+
+  pub tag-usage : b ≡ false → y ≡ pick (signs p) x y
+  unfolding pick
+  tag-usage t = rw (← e, t) refl
 
 -- ---- 41
 

@@ -5,6 +5,7 @@ use records::NumberSet;
 ghost use mathlib.Core.Path.{_≡_};
 ghost use Prim.Native.Nat.{_+_, _*_, _≤_};
 ghost use lib.Dec.{leb};
+ghost use Rattle.answer.specs.Answer.{pick};
 ghost use Rattle.records.specs.Content.{membersOf};
 ghost use Rattle.checks.specs.Tags.{member, allows, setAllows};
 ghost use Rattle.checks.specs.Checks.{knownPurpose, purposeRefused, agreed, algorithmFits, paddingFits, looksAtPadding, paddingRefused, looksAtDigest, digestFits, digestRefused, digestBytes, keyBytes, looksAtKeySize, keySizeRefused, signs, expiry, clockRefused, activeRefused, expiryRefused, authMissing, tokenRefused, recent, freshRefused, nullRefused, usesRefused};
@@ -222,7 +223,8 @@ pub fn signs(p: u64) -> bool
 
 // The expiry date that applies: 401 to SIGN and ATTEST_KEY, else 402.
 pub fn expiry(p: u64, origination: NumberTag, usage: NumberTag) -> NumberTag
-    ensures { λ t. ⌜ ofNumberTag t ≡ expiry p (ofNumberTag origination) (ofNumberTag usage) ⌝ }
+    ensures is { λ t. ⌜ ofNumberTag t ≡ expiry p (ofNumberTag origination) (ofNumberTag usage) ⌝ }
+    ensures whole { λ t. ⌜ t ≡ pick (signs p) origination usage ⌝ }
 {
     if signs(p) {
         return origination;

@@ -17,17 +17,16 @@ use Rattle.records.specs.Content.{membersOf}
 use Rattle.records.specs.Slots.{SetInSlots}
 use Rattle.records.specs.Clear.{SpareClear}
 use Rattle.records.specs.declared.NumberSet.{NumberSet}
-use Rattle.der.specs.Short.{ShortIs, ShortAt, ExtentAt, HeaderIs, HeaderAt}
+use Rattle.der.specs.Short.{ShortIs, HeaderIs}
 use Rattle.der.specs.declared.header.Header.{Header}
-use Rattle.der.specs.declared.header.Short.{Short}
-use Rattle.der.specs.declared.header.Extent.{Extent}
 use Rattle.der.proofs.Bits.{low5}
-use Rattle.der.proofs.Short.{short-one, short-of, extent-of, extent-short, header-is}
-use Rattle.contents.specs.Element.{opening, opened, openedAs}
+use Rattle.der.proofs.Short.{short-one, extent-short, header-is}
+use Rattle.contents.specs.Element.{opening, opened, openedAs, LiesAt}
 use Rattle.contents.specs.Leaf.{readNumber, ShortNumber}
 use Rattle.contents.specs.Set.{membersFrom, OneMember, setOfOne}
 use Rattle.contents.specs.declared.element.Element.{Element}
 use Rattle.contents.specs.declared.element.Tagged.{Tagged}
+use Rattle.contents.specs.declared.element.Lies.{Lies}
 use Rattle.contents.specs.declared.leaf.Value.{Value}
 use Rattle.contents.specs.declared.leaf.Number.{Number}
 use Rattle.contents.specs.declared.set.Step.{Step}
@@ -52,7 +51,7 @@ module _ (s : List ℕ) (at end form number : ℕ) (fit : end ≤ length s) (low
       let q : at + 1 + 1 ≡ at + 2 = omega arith in
       header-is s at end fit form number (at + 1) (at + 2) (at + 2 + getD s (at + 1) 0) (one h) (rw q at (extent-short s (at + 1) end fit (omega arith) b (omega arith)))
 
--- ---- a header by any short way, as the element that it opens
+-- ---- a header by the short way, as the element that it opens
 
 module _ (s : List ℕ) (at end : ℕ) (fit : end ≤ length s) where
   element-short : (f n b x : ℕ) → HeaderIs s at end f n b x → got (taken (opening (identifier f n) b (slice b x s)) x (slice x end s)) ≡ opened at (slice at end s)
@@ -60,12 +59,8 @@ module _ (s : List ℕ) (at end : ℕ) (fit : end ≤ length s) where
       let q : b + (x - b) ≡ x = omega (arith, i .size) in
       rw q at (open-is s at end (Header.Is f n (x - b) b) fit (omega (arith, i .from, i .size, i .to)) (sym (i .is)) f n (x - b) b (i .from, rw q (i .to)) refl)
 
-  pub explicit-is : (f n p b x : ℕ) (k : Short) (r : Extent) → ShortAt s at end k → k ≡ Short.Is f n p → ExtentAt s p end r → r ≡ Extent.Is b x
-      → got (taken (opening (identifier f n) b (slice b x s)) x (slice x end s)) ≡ opened at (slice at end s)
-  explicit-is f n p b x k r u v i w = element-short f n b x (header-is s at end fit f n p b x (short-of s at end f n p k u v) (extent-of s p end b x r i w))
-
-  pub tagged-short : (f n b x : ℕ) (r : Extent) → HeaderAt s at end f n r → r ≡ Extent.Is b x → got (taken (b, slice b x s) x (slice x end s)) ≡ openedAs f n at (slice at end s)
-  tagged-short f n b x r i w = tagged-is s at end f n (Element.Is f n b x) (element-short f n b x (subst (HeaderAt s at end f n) w i)) f n b x refl refl refl
+  pub tagged-short : (f n b x : ℕ) (r : Lies) → LiesAt s at end f n r → r ≡ Lies.Is b x → got (taken (b, slice b x s) x (slice x end s)) ≡ openedAs f n at (slice at end s)
+  tagged-short f n b x r i w = tagged-is s at end f n (Element.Is f n b x) (element-short f n b x (subst (LiesAt s at end f n) w i)) f n b x refl refl refl
 
   -- ---- a number of one octet
 
@@ -85,19 +80,13 @@ module _ (s : List ℕ) (at end : ℕ) (fit : end ≤ length s) where
       let w = k h in
       let i = w .0 in
       let v : (p : ℕ) → got n ≡ integerOf top 10 p (slice (at + 2) (at + 3) s) = λ p. rw (w .1) at (content-one s (at + 2) (at + 3) top (omega arith) (omega (arith, i .to)) (rw (w .1) h) (omega arith) (rw (w .1) l) p) in
-      number-is s at end tag top (Tagged.Is (at + 2) (at + 3)) (tagged-short 0 tag (at + 2) (at + 3) (Extent.Is (at + 2) (at + 3)) i refl) (at + 2) (at + 3) n (Value.Is n) refl v refl
+      number-is s at end tag top (Tagged.Is (at + 2) (at + 3)) (tagged-short 0 tag (at + 2) (at + 3) (Lies.Is (at + 2) (at + 3)) i refl) (at + 2) (at + 3) n (Value.Is n) refl v refl
 
 -- ---- where they lie
 
 module _ (s : List ℕ) (at end : ℕ) where
-  pub explicit-inside : (f n p b x : ℕ) (k : Short) (r : Extent) → ShortAt s at end k → k ≡ Short.Is f n p → ExtentAt s p end r → r ≡ Extent.Is b x → (at < b) × ((b ≤ x) × (x ≤ end))
-  explicit-inside f n p b x k r u v i w =
-      let j = short-of s at end f n p k u v in
-      let e = extent-of s p end b x r i w in
-      omega (arith, j .from, e .from, e .size, e .to)
-
-  pub tagged-within : (f n b x : ℕ) (r : Extent) → HeaderAt s at end f n r → r ≡ Extent.Is b x → (at < b) × ((b ≤ x) × (x ≤ end))
-  tagged-within f n b x r i w = let j : HeaderIs s at end f n b x = subst (HeaderAt s at end f n) w i in omega (arith, j .from, j .size, j .to)
+  pub tagged-within : (f n b x : ℕ) (r : Lies) → LiesAt s at end f n r → r ≡ Lies.Is b x → (at < b) × ((b ≤ x) × (x ≤ end))
+  tagged-within f n b x r i w = let j : HeaderIs s at end f n b x = subst (LiesAt s at end f n) w i in omega (arith, j .from, j .size, j .to)
 
 -- ---- a set of one small number
 
@@ -116,7 +105,7 @@ one-member s at end fit l a b c d m =
     let q : at + 2 + 2 ≡ at + 4 = omega arith in
     let x : at + 2 + getD s (at + 1) 0 ≡ end = omega arith in
     let i : HeaderIs s at end 1 17 (at + 2) end = rw x at (header-short s at end 1 17 fit (omega arith) a (omega arith) (omega arith) (omega arith) (omega arith)) in
-    let e = tagged-short s at end fit 1 17 (at + 2) end (Extent.Is (at + 2) end) i refl in
+    let e = tagged-short s at end fit 1 17 (at + 2) end (Lies.Is (at + 2) end) i refl in
     let g : got (n ∷ []) ≡ membersFrom (at + 2) (slice (at + 2) end s) = one-gathered s (at + 2) end n fit (omega arith) c (rw p d) (rw q refl) m in
     sym (exact-whole readSet s at end fit (n ∷ []) end (sym (set-is s at end (Tagged.Is (at + 2) end) e (at + 2) end (Step.Past end) (setOfOne n) refl g refl)) refl)
 

@@ -8,8 +8,10 @@ use Rattle.answer.specs.Refusal.{wrongElement}
 use Rattle.codec.specs.Octets.{Taken, taken}
 use Rattle.codec.specs.Header.{Identifier, identifier}
 use Rattle.codec.specs.Element.{element, tagged}
+use Rattle.der.specs.Short.{HeaderIs}
 use Rattle.contents.specs.declared.element.Element.{Element}
 use Rattle.contents.specs.declared.element.Tagged.{Tagged}
+use Rattle.contents.specs.declared.element.Lies.{Lies}
 
 pub record Opened : Type 0 where
   pub id : Identifier
@@ -42,3 +44,8 @@ ofTagged s end (Tagged.Refused k p) = refused k p
 abbrev pub TaggedInside : ℕ → ℕ → Tagged → Type 0
 TaggedInside at end (Tagged.Is b x) = (at < b) × ((b ≤ x) × (x ≤ end))
 TaggedInside at end (Tagged.Refused k p) = Unit {0}
+
+-- by the short way; of `No` nothing is said, and the long way follows
+abbrev pub LiesAt : List ℕ → ℕ → ℕ → ℕ → ℕ → Lies → Type 0
+LiesAt s at end form number (Lies.Is b x) = HeaderIs s at end form number b x
+LiesAt s at end form number Lies.No = Unit {0}

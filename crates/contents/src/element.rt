@@ -1,6 +1,5 @@
 // The next element of a holder, opened: its identifier and where its content lies.
 use answer::WRONG_ELEMENT;
-use der::header::Extent;
 use der::header::Header;
 use der::header::clipped;
 use der::header::read_header;
@@ -8,8 +7,7 @@ ghost use mathlib.Core.Path.{_≡_};
 ghost use Prim.Native.Nat.{_≤_};
 ghost use lib.ListN.{length};
 ghost use lib.Seq.{slice};
-ghost use Rattle.der.specs.Short.{HeaderAt};
-ghost use Rattle.contents.specs.Element.{opened, openedAs, ofElement, ofTagged, ElementInside, TaggedInside};
+ghost use Rattle.contents.specs.Element.{opened, openedAs, ofElement, ofTagged, ElementInside, TaggedInside, LiesAt};
 
 // An element: its identifier, and its content from body to stop; or a refusal with its place.
 pub enum Element {
@@ -79,34 +77,40 @@ fn open_long(s: &[u8], at: usize, end: usize, form: u8, number: usize) -> Tagged
     }
 }
 
+// Where a content lies, by a short way; where that does not serve, none.
+pub(crate) enum Lies {
+    Is(usize, usize),
+    No,
+}
+
 // The content of the next element, where its identifier and its length have one octet each, as in most, and the identifier is
 // just this one.
-fn short_tagged(s: &[u8], at: usize, end: usize, form: u8, number: usize) -> Extent
+fn short_tagged(s: &[u8], at: usize, end: usize, form: u8, number: usize) -> Lies
     requires { ⌜ end ≤ length (now s) ⌝ }
-    ensures { λ r. ⌜ HeaderAt (now (s .entry)) at end form number r ⌝ }
+    ensures { λ r. ⌜ LiesAt (now (s .entry)) at end form number r ⌝ }
 {
     if 31 <= number {
-        return Extent::No;
+        return Lies::No;
     }
     if end <= at {
-        return Extent::No;
+        return Lies::No;
     }
     if end - at < 2 {
-        return Extent::No;
+        return Lies::No;
     }
     let a = s[at];
     if a as usize != form as usize * 32 + number {
-        return Extent::No;
+        return Lies::No;
     }
     let b = s[at + 1];
     if 128 <= b {
-        return Extent::No;
+        return Lies::No;
     }
     let size = b as usize;
     if end - at - 2 < size {
-        return Extent::No;
+        return Lies::No;
     }
-    Extent::Is(at + 2, at + 2 + size)
+    Lies::Is(at + 2, at + 2 + size)
 }
 
 // The next element, which must have just this identifier, for a holder's end that is known to lie in s; most headers have two
@@ -117,8 +121,8 @@ pub(crate) fn tagged_at(s: &[u8], at: usize, end: usize, form: u8, number: usize
     ensures inside { λ r. ⌜ TaggedInside at end r ⌝ }
 {
     match short_tagged(s, at, end, form, number) {
-        Extent::Is(body, stop) => Tagged::Is(body, stop),
-        Extent::No => open_long(s, at, end, form, number),
+        Lies::Is(body, stop) => Tagged::Is(body, stop),
+        Lies::No => open_long(s, at, end, form, number),
     }
 }
 

@@ -1,5 +1,5 @@
 -- What the header readers answer, in plain variables: `search` finds the premises in a need's record. Assumes nothing.
-use mathlib.Core.Path.{_≡_, sym, subst, _∙_}
+use mathlib.Core.Path.{_≡_, refl, sym, subst, _∙_}
 use mathlib.Core.List.{List}
 use Prim.Native.Nat.{ℕ, _+_, _-_, _*_, _/_, _%_, _^_, _<_, _≤_}
 use mir.Val.{Fits}
@@ -8,11 +8,11 @@ use native.Mathlib.Omega.{arith}
 use lib.ListN.{length, getD, take}
 use lib.Seq.{slice, length-slice, take-length, take-all}
 use lib.Bits.{bitAnd, bitOr}
-use borrow.Author.Tests.{le-leb, lt-leb}
+use borrow.Author.Tests.{le-leb, lt-leb, le-ltb, lt-ltb}
 use Rattle.answer.specs.Answer.{got, refused, guard, bind, pick}
 use Rattle.codec.specs.Octets.{taken}
 use Rattle.codec.specs.Header.{identifier, header, readHighNumber, readIdentifier, readLength, readHeader, reported, reportedPlace}
-use Rattle.der.specs.Header.{ofIdentifier, ofLength, ofHeader, IdentifierInside, LengthInside, HeaderInside}
+use Rattle.der.specs.Header.{nearer, ofIdentifier, ofLength, ofHeader, IdentifierInside, LengthInside, HeaderInside}
 use Rattle.der.specs.declared.header.Identifier.{Identifier}
 use Rattle.der.specs.declared.header.Length.{Length}
 use Rattle.der.specs.declared.header.Header.{Header}
@@ -75,6 +75,14 @@ length-at at end n x r h w = subst (LengthInside at end) w h
 
 pub clipped-all : (s : List ℕ) (end : ℕ) → length s ≤ end → take (length s) s ≡ take end s
 clipped-all s end h = take-length s ∙ sym (take-all end s h)
+
+pub nearer-first : (a b : ℕ) → a < b → a ≡ nearer a b
+unfolding pick
+nearer-first a b h = rw (lt-ltb a b h) refl
+
+pub nearer-last : (a b : ℕ) → b ≤ a → b ≡ nearer a b
+unfolding pick
+nearer-last a b h = rw (le-ltb a b h) refl
 
 pub header-clipped : (s : List ℕ) (at stop end : ℕ) (r : Header) → take stop s ≡ take end s → ofHeader s stop r ≡ readHeader at (slice at stop s) → ofHeader s end r ≡ readHeader at (slice at end s)
 header-clipped s at stop end (Header.Is f n z b) e w = rw (← e) w

@@ -4,7 +4,7 @@ use mathlib.Core.List.{List}
 use Prim.Native.Nat.{ℕ, _+_, _-_, _*_, _/_, _%_, _^_, _<_, _≤_}
 use native.Mathlib.Omega.{arith}
 use lib.Bits.{bitAnd, bitOr}
-use lib.ListN.{length, getD, take}
+use lib.ListN.{length, getD}
 use lib.Seq.{slice, length-slice}
 use borrow.Author.Tests.{le-leb}
 use Rattle.answer.specs.Answer.{got, guard, bind, pick}
@@ -35,10 +35,6 @@ module _ (s : List ℕ) (at end : ℕ) (fit : end ≤ length s) where
       let e = number-high s f (at + 1) end fit (omega arith) (omega arith) b (omega arith) (rw p c) in
       record { is = rw (q, p) at (sym (identifier-high s at end (Identifier.Is f _ (at + 1 + 1 + 1)) fit h o e)); from = omega arith }
 
-pub short-clipped : (s : List ℕ) (at stop end : ℕ) (r : Short) → take stop s ≡ take end s → ShortAt s at stop r → ShortAt s at end r
-short-clipped s at stop end (Short.Is f n p) e i = record { is = rw (← e) (i .is); from = i .from }
-short-clipped s at stop end Short.No e i = tt
-
 pub short-of : (s : List ℕ) (at end f n p : ℕ) (r : Short) → ShortAt s at end r → r ≡ Short.Is f n p → ShortIs s at end f n p
 short-of s at end f n p r i w = subst (ShortAt s at end) w i
 
@@ -49,10 +45,6 @@ extent-is s at end z b l e i w h =
     let j = length-at at end z b l i w in
     let q : b + z - b ≡ z = omega arith in
     record { is = rw (← e, w, q) refl; from = j .0; size = omega arith; to = omega (arith, j .1) }
-
-pub extent-clipped : (s : List ℕ) (at stop end : ℕ) (r : Extent) → stop ≤ end → take stop s ≡ take end s → ExtentAt s at stop r → ExtentAt s at end r
-extent-clipped s at stop end (Extent.Is b x) h e i = record { is = rw (← e) (i .is); from = i .from; size = i .size; to = omega (arith, i .to) }
-extent-clipped s at stop end Extent.No h e i = tt
 
 pub extent-of : (s : List ℕ) (at end b x : ℕ) (r : Extent) → ExtentAt s at end r → r ≡ Extent.Is b x → ExtentIs s at end b x
 extent-of s at end b x r i w = subst (ExtentAt s at end) w i
@@ -74,3 +66,19 @@ module _ (s : List ℕ) (at end : ℕ) (fit : end ≤ length s) where
 
   pub header-is : (f n p b x : ℕ) → ShortIs s at end f n p → ExtentIs s p end b x → HeaderIs s at end f n b x
   header-is f n p b x k i = record { is = joined f n p b x (k .is) i; from = omega (arith, k .from, i .from); size = i .size; to = i .to }
+
+  module _ (f n p b x : ℕ) (k : Short) (r : Extent) (u : ShortAt s at end k) (v : k ≡ Short.Is f n p) (i : ExtentAt s p end r) (w : r ≡ Extent.Is b x) where
+    quick : HeaderIs s at end f n b x
+    quick = header-is f n p b x (short-of s at end f n p k u v) (extent-of s p end b x r i w)
+
+    pub quick-is : got (taken (header (identifier f n) (x - b)) b (slice b end s)) ≡ readHeader at (slice at end s)
+    quick-is = sym (quick .is)
+
+    pub quick-from : at < b
+    quick-from = quick .from
+
+    pub quick-size : b ≤ x
+    quick-size = quick .size
+
+    pub quick-to : b + (x - b) ≤ end
+    quick-to = omega (arith, quick .size, quick .to)

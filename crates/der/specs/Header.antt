@@ -2,8 +2,9 @@
 -- that a definition hands on is the part of s from the next place to the end.
 use mathlib.Core.List.{List}
 use Prim.Native.Nat.{ℕ, _+_, _<_, _≤_}
+use lib.Dec.{ltb}
 use lib.Seq.{slice}
-use Rattle.answer.specs.Answer.{Answer, got, refused}
+use Rattle.answer.specs.Answer.{Answer, got, refused, pick}
 use Rattle.codec.specs.Octets.{Taken, taken}
 use Rattle.codec.specs.Header as codec
 use Rattle.der.specs.declared.header.Identifier.{Identifier}
@@ -35,3 +36,7 @@ LengthInside at end (Length.Refused k p) = Unit {0}
 abbrev pub HeaderInside : ℕ → ℕ → Header → Type 0
 HeaderInside at end (Header.Is f n size body) = (at < body) × (body + size ≤ end)
 HeaderInside at end (Header.Refused k p) = Unit {0}
+
+-- the nearer of two ends
+abbrev pub nearer : ℕ → ℕ → ℕ
+nearer a b = pick (ltb a b) a b

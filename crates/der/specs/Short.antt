@@ -36,8 +36,3 @@ pub record HeaderIs (s : List ℕ) (at end form number b x : ℕ) : Type 0 where
   pub from : at < b
   pub size : b ≤ x
   pub to : x ≤ end
-
--- a header with this identifier, by where its content lies
-abbrev pub HeaderAt : List ℕ → ℕ → ℕ → ℕ → ℕ → Extent → Type 0
-HeaderAt s at end form number (Extent.Is b x) = HeaderIs s at end form number b x
-HeaderAt s at end form number Extent.No = Unit {0}

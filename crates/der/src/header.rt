@@ -9,7 +9,7 @@ ghost use lib.ListN.{length, take};
 ghost use lib.Seq.{slice};
 ghost use Rattle.codec.specs.Header.{readHighNumber, readIdentifier, readLength, readHeader, reportedPlace};
 ghost use Rattle.der.specs.Short.{ShortAt, ExtentAt};
-ghost use Rattle.der.specs.Header.{ofIdentifier, ofLength, ofHeader, IdentifierInside, LengthInside, HeaderInside};
+ghost use Rattle.der.specs.Header.{ofIdentifier, ofLength, ofHeader, IdentifierInside, LengthInside, HeaderInside, nearer};
 
 // An identifier: the three high bits of its first octet (the lowest of them is bit 6, "holds elements"), its tag
 // number and the next place; or a refusal and the octet at fault.
@@ -143,7 +143,7 @@ fn read_length(s: &[u8], at: usize, end: usize) -> Length
 }
 
 // An identifier of one octet or of three, which most have; of any other nothing is said.
-pub enum Short {
+pub(crate) enum Short {
     Is {
         form: u8,
         number: usize,
@@ -191,7 +191,7 @@ pub(crate) fn short_at(s: &[u8], at: usize, end: usize) -> Short
 
 // The content after a length: from where to where it lies; none where the length is against the rules or the content does
 // not stand whole before the holder's end.
-pub enum Extent {
+pub(crate) enum Extent {
     Is(usize, usize),
     No,
 }
@@ -249,6 +249,7 @@ pub(crate) fn header_at(s: &[u8], at: usize, end: usize) -> Header
 pub fn clipped(s: &[u8], end: usize) -> usize
     ensures inside { λ r. ⌜ (r ≤ end) × (r ≤ length (now (s .entry))) ⌝ }
     ensures same { λ r. ⌜ take r (now (s .entry)) ≡ take end (now (s .entry)) ⌝ }
+    ensures is { λ r. ⌜ r ≡ nearer end (length (now (s .entry))) ⌝ }
 {
     let len = s.len();
     if end < len {
@@ -265,16 +266,30 @@ pub fn read_header(s: &[u8], at: usize, end: usize) -> Header
     header_at(s, at, clipped(s, end))
 }
 
-// The content after the length at at, up to its holder's end or that of s, whichever comes first.
-pub fn read_extent(s: &[u8], at: usize, end: usize) -> Extent
-    ensures { λ r. ⌜ ExtentAt (now (s .entry)) at end r ⌝ }
+// The same header by short looks, where they serve, for a holder's end that is known to lie in s.
+fn quick_at(s: &[u8], at: usize, end: usize) -> Header
+    requires { ⌜ end ≤ length (now s) ⌝ }
+    ensures is { λ r. ⌜ ofHeader (now (s .entry)) end r ≡ readHeader at (slice at end (now (s .entry))) ⌝ }
+    ensures inside { λ r. ⌜ HeaderInside at end r ⌝ }
 {
-    extent_at(s, at, clipped(s, end))
+    match short_at(s, at, end) {
+        Short::No => header_at(s, at, end),
+        Short::Is { form, number, next } => match extent_at(s, next, end) {
+            Extent::No => header_at(s, at, end),
+            Extent::Is(body, stop) => Header::Is {
+                form,
+                number,
+                size: stop - body,
+                body,
+            },
+        },
+    }
 }
 
-// The identifier at at by a short look, up to its holder's end or that of s, whichever comes first.
-pub fn read_short(s: &[u8], at: usize, end: usize) -> Short
-    ensures { λ r. ⌜ ShortAt (now (s .entry)) at end r ⌝ }
+// What `read_header` answers, sooner where the identifier has one octet or three, as a field's has.
+pub fn quick_header(s: &[u8], at: usize, end: usize) -> Header
+    ensures is { λ r. ⌜ ofHeader (now (s .entry)) end r ≡ readHeader at (slice at end (now (s .entry))) ⌝ }
+    ensures inside { λ r. ⌜ HeaderInside at end r × HeaderInside at (length (now (s .entry))) r ⌝ }
 {
-    short_at(s, at, clipped(s, end))
+    quick_at(s, at, clipped(s, end))
 }

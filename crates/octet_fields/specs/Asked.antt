@@ -5,6 +5,7 @@ use mathlib.Core.Bool.{Bool}
 use mathlib.Core.Option.{Option, none, some}
 use mathlib.Core.List.{List, []}
 use Prim.Native.Nat.{ℕ, _+_}
+use lib.Dec.{leb}
 use lib.ListN.{length}
 use Rattle.answer.specs.Answer.{Answer, got, refused, guard, pick}
 use Rattle.answer.specs.Refusal.{illShaped}
@@ -52,6 +53,10 @@ startAsked (refused number place) = 0
 -- a place in memory, n octets on
 abbrev pub movedOn : ℕ × ℕ → ℕ → ℕ × ℕ
 movedOn at n = (at .0, at .1 + n)
+
+-- where a part begins of which what lies outside n octets is left out
+abbrev pub startWithin : ℕ → ℕ → ℕ
+startWithin start n = pick (leb n start) n start
 
 -- the code's answer in these terms
 abbrev pub ofAsked : Asked → Answer (Option (ℕ × ℕ))

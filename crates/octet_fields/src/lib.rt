@@ -12,7 +12,7 @@ ghost use lib.ListN.{length};
 ghost use Rattle.schema.specs.Table.{octets, rows, indexOf};
 ghost use Rattle.records.specs.Content.{octetsAt, partOf};
 ghost use Rattle.octet_fields.specs.AskedRow.{askedIn, askedAt};
-ghost use Rattle.octet_fields.specs.Asked.{listOf, askedOctets, octetFieldOf, startAsked, movedOn, ofAsked};
+ghost use Rattle.octet_fields.specs.Asked.{listOf, askedOctets, octetFieldOf, startAsked, startWithin, movedOn, ofAsked};
 
 // What asking for an octet field answers: its part's start and length; that there is none; or a refusal with its place.
 pub enum Asked {
@@ -88,7 +88,8 @@ pub fn octet_field(s: &[u8], r: Record, hardware: bool, number: usize) -> &[u8]
 
 // len octets of s from start on, as many as there are: what lies outside s is left out.
 fn octets_at(s: &[u8], start: usize, len: usize) -> &[u8]
-    ensures { λ t. ⌜ now t ≡ octetsAt (now (s .entry)) start len ⌝ }
+    ensures octets { λ t. ⌜ now t ≡ octetsAt (now (s .entry)) start len ⌝ }
+    ensures place { λ t. ⌜ t .ptr ≡ movedOn (s .entry .ptr) (startWithin start (length (now (s .entry)))) ⌝ }
 {
     let n = s.len();
     if n <= start {
@@ -103,7 +104,8 @@ fn octets_at(s: &[u8], start: usize, len: usize) -> &[u8]
 
 // The octets of a part, as the very bytes of the buffer; what lies outside it is left out.
 pub fn part_octets(s: &[u8], p: Part) -> &[u8]
-    ensures { λ t. ⌜ now t ≡ partOf (now (s .entry)) p ⌝ }
+    ensures octets { λ t. ⌜ now t ≡ partOf (now (s .entry)) p ⌝ }
+    ensures place { λ t. ⌜ t .ptr ≡ movedOn (s .entry .ptr) (startWithin (p .start) (length (now (s .entry)))) ⌝ }
 {
     octets_at(s, p.start, p.len)
 }

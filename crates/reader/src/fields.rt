@@ -10,14 +10,11 @@ use contents::content::root_content;
 use contents::content::set_content;
 use contents::element::Element;
 use contents::element::Tagged;
-use contents::element::open_element;
 use contents::element::open_tagged;
 use contents::set::Step;
 use contents::set::empty_set;
-use der::header::Extent;
-use der::header::Short;
-use der::header::read_extent;
-use der::header::read_short;
+use der::header::Header;
+use der::header::quick_header;
 use records::FieldList;
 use records::Part;
 use records::RootOfTrust;
@@ -49,23 +46,27 @@ pub(crate) enum FieldHead {
     Refused(u8, usize),
 }
 
-// The next element of a list, which is to be an explicit tag: most have a tag number below 31 and a header of two octets,
-// or one of two octets and a header of four.
+// The next element of a list, which is to be an explicit tag; where no octet is left, one is missing.
 fn open_explicit(s: &[u8], at: usize, end: usize) -> Element
     requires { ⌜ end ≤ length (now s) ⌝ }
     ensures is { λ r. ⌜ ofElement (now (s .entry)) end r ≡ opened at (slice at end (now (s .entry))) ⌝ }
     ensures inside { λ r. ⌜ ElementInside at end r ⌝ }
 {
-    match read_short(s, at, end) {
-        Short::No => open_element(s, at, end),
-        Short::Is { form, number, next } => match read_extent(s, next, end) {
-            Extent::No => open_element(s, at, end),
-            Extent::Is(body, stop) => Element::Is {
-                form,
-                number,
-                body,
-                stop,
-            },
+    if end <= at {
+        return Element::Refused(WRONG_ELEMENT, at);
+    }
+    match quick_header(s, at, end) {
+        Header::Refused(k, place) => Element::Refused(k, place),
+        Header::Is {
+            form,
+            number,
+            size,
+            body,
+        } => Element::Is {
+            form,
+            number,
+            body,
+            stop: body + size,
         },
     }
 }

@@ -1,5 +1,9 @@
 -- `octets_at` meets its contract: one law for each way in which a part can lie in the bytes. Assumes nothing.
-use Rattle.octet_fields.proofs.PartOctets.{part-past, part-cut, part-whole}
+use native.Mathlib.Omega.{arith}
+use lib.ListN.{length}
+use denote.Ref.{now}
+use Rattle.octet_fields.proofs.Asking.{moved}
+use Rattle.octet_fields.proofs.PartOctets.{part-past, part-cut, part-whole, within-past, within-start}
 use borrow.Author.Needs.{needs}
 use Rattle.octet_fields.proofs.octets_at.Statement.{statement}
 use Rattle.octet_fields.proofs.octets_at.Tie as tie
@@ -14,7 +18,9 @@ part-result-end : tie.Need-part-result-end
 part-result-end c = search needs
 
 returns : tie.Need-returns
-returns c = search part-past
+returns c =
+    let p = c .before .before .args in
+    (search part-past, moved (p .s .ptr) (length (now (p .s))) _ _ (search within-past) (omega arith))
 
 sub-if2 : tie.Need-sub-if2
 sub-if2 c = search needs
@@ -29,7 +35,9 @@ part-result-end-2 : tie.Need-part-result-end-2
 part-result-end-2 c = search needs
 
 returns-2 : tie.Need-returns-2
-returns-2 c = search part-cut
+returns-2 c =
+    let p = c .before .before .before .args in
+    (search part-cut, moved (p .s .ptr) (p .start) _ _ (search within-start) (omega arith))
 
 add-end : tie.Need-add-end
 add-end c = search needs
@@ -44,7 +52,9 @@ part-result-end-3 : tie.Need-part-result-end-3
 part-result-end-3 c = search needs
 
 returns-3 : tie.Need-returns-3
-returns-3 c = search part-whole
+returns-3 c =
+    let p = c .before .before .before .args in
+    (search part-whole, moved (p .s .ptr) (p .start) _ _ (search within-start) (omega arith))
 
 pub octets-at-spec : {M : Type 1} → statement M
 octets-at-spec =

@@ -16,7 +16,7 @@ clock-refused-requires c κs = search needs
 
 returns : tie.Need-returns
 unfolding dateChecks
-returns c = refuses _ _ (rw (← c .before .before .before .expiry .ensures, ← c .before .before .expiry2 .ensures) (c .before .clock-refused .ensures)) (c .if1 .taken)
+returns c = refuses _ _ (rw (← c .before .before .before .expiry .ensures .0, ← c .before .before .expiry2 .ensures .0) (c .before .clock-refused .ensures)) (c .if1 .taken)
 
 active-refused-requires : tie.Need-active-refused-requires
 active-refused-requires c κs = search needs
@@ -25,7 +25,7 @@ returns-2 : tie.Need-returns-2
 unfolding dateChecks
 returns-2 c =
     let c1 = c .before .before in
-    passes _ _ (rw (← c1 .before .before .before .expiry .ensures, ← c1 .before .before .expiry2 .ensures) (c1 .before .clock-refused .ensures)) (c1 .if1 .left)
+    passes _ _ (rw (← c1 .before .before .before .expiry .ensures .0, ← c1 .before .before .expiry2 .ensures .0) (c1 .before .clock-refused .ensures)) (c1 .if1 .left)
     (refuses _ _ (c .before .active-refused .ensures) (c .if2 .taken))
 
 expiry-refused-requires : tie.Need-expiry-refused-requires
@@ -36,18 +36,18 @@ unfolding dateChecks
 returns-3 c =
     let c2 = c .before .before in
     let c1 = c2 .before .before in
-    passes _ _ (rw (← c1 .before .before .before .expiry .ensures, ← c1 .before .before .expiry2 .ensures) (c1 .before .clock-refused .ensures)) (c1 .if1 .left)
+    passes _ _ (rw (← c1 .before .before .before .expiry .ensures .0, ← c1 .before .before .expiry2 .ensures .0) (c1 .before .clock-refused .ensures)) (c1 .if1 .left)
     (passes _ _ (c2 .before .active-refused .ensures) (c2 .if2 .left)
-    (refuses _ _ (rw (← c1 .before .before .before .expiry .ensures, ← c1 .before .before .expiry2 .ensures) (c .before .expiry-refused .ensures)) (c .if3 .taken)))
+    (refuses _ _ (rw (← c1 .before .before .before .expiry .ensures .0, ← c1 .before .before .expiry2 .ensures .0) (c .before .expiry-refused .ensures)) (c .if3 .taken)))
 
 returns-4 : tie.Need-returns-4
 unfolding dateChecks
 returns-4 c =
     let c2 = c .before .before in
     let c1 = c2 .before .before in
-    passes _ _ (rw (← c1 .before .before .before .expiry .ensures, ← c1 .before .before .expiry2 .ensures) (c1 .before .clock-refused .ensures)) (c1 .if1 .left)
+    passes _ _ (rw (← c1 .before .before .before .expiry .ensures .0, ← c1 .before .before .expiry2 .ensures .0) (c1 .before .clock-refused .ensures)) (c1 .if1 .left)
     (passes _ _ (c2 .before .active-refused .ensures) (c2 .if2 .left)
-    (passes _ _ (rw (← c1 .before .before .before .expiry .ensures, ← c1 .before .before .expiry2 .ensures) (c .before .expiry-refused .ensures)) (c .if3 .left) none-left))
+    (passes _ _ (rw (← c1 .before .before .before .expiry .ensures .0, ← c1 .before .before .expiry2 .ensures .0) (c .before .expiry-refused .ensures)) (c .if3 .left) none-left))
 
 pub date-refusal-spec : {M : Type 1} → statement M
 date-refusal-spec =
