@@ -1,5 +1,6 @@
 // The numbers of document 01's refusals ("Numbers of the reader and writer", "The use ruling", "The enrolment ruling").
 // Code names a refusal by these; specs/Refusal.antt has the same names for the definitions.
+#![tactic(auto)]
 
 // Over the limit of bytes; place 0.
 pub const TOO_LONG: u8 = 1;

@@ -5,6 +5,7 @@
 // w: limits of bytes, depth and elements, how many octets follow, and those: the first pass over them.
 // h: output length, place, form, number and size: what put_header answers and leaves.
 // i: output length, place and number: what put_integer answers and leaves.
+#![tactic(auto)]
 ghost use Rattle.std.specs.Prelude.{◌<◌, ◌≤◌};
 
 use der::walk::{Limits, Walked};

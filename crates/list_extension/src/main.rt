@@ -1,5 +1,6 @@
 // Reads one extension from standard input and writes its listing (document 01, "One extension, whole"), once. The input
 // stands in one buffer of 8,193 zeros, so that one byte too many is seen.
+#![tactic(auto)]
 ghost use Rattle.std.specs.Prelude.{◌≡◌, ◌≤◌, length};
 ghost use Rattle.codec.specs.Octets.{splice};
 ghost use Rattle.list_extension.specs.Shown.{shown};

@@ -3,6 +3,7 @@
 // Each put function writes its text from a place on, nothing past the output's end, and answers the next place. Its
 // contract, PutsText or one that specs/Lines.antt names, also bounds the text's length, so that list_record knows without
 // counting when all of it fits.
+#![tactic(auto)]
 ghost use Rattle.std.specs.Prelude.{◌≡◌, [], ◌∷◌, ◌+◌, ◌*◌, ◌<◌, ◌≤◌, length, drop};
 ghost use Rattle.schema.specs.Table.{row_count};
 ghost use Rattle.records.specs.Content.{part_of, members_of};

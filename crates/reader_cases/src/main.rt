@@ -3,6 +3,7 @@
 //
 // A case is the length of its name (one octet), its name, the length of the extension (two octets, highest first) and
 // the extension.
+#![tactic(auto)]
 ghost use Rattle.std.specs.Prelude.{◌<◌};
 
 use extension_text::list_bytes;

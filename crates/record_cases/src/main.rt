@@ -5,6 +5,7 @@
 // The input (input.rt) starts with how many cases there are, and for each five words: what is asked (0 to be written, 1 a
 // use, 2 an enrolment, 3 an octet field), its name's place and length, its record's place, and the place of what goes
 // with it.
+#![tactic(auto)]
 mod input;
 mod record;
 mod rule;

@@ -1,5 +1,6 @@
 // Writes for each version the numbers that it holds, a line each. scripts/reader_cases.py makes the expected lines from the
 // schemas that source document 001 prints.
+#![tactic(auto)]
 use libc::STDOUT_FILENO;
 use schema::{ROWS, held, row_at};
 

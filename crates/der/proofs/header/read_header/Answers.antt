@@ -1,0 +1,11 @@
+-- `der::header::read_header` meets its contract: what `header_at` ensures at the clipped end holds at the end given.
+-- Assumes nothing.
+use borrow.Author.Rules.{rules}
+use Rattle.der.proofs.Headers.{header_clipped, inside_more}
+use Rattle.der.proofs.header.read_header.Goals as goal
+
+pub returns-clause-is : goal.returns-clause-is
+returns-clause-is c = search header_clipped
+
+pub returns-clause-inside : goal.returns-clause-inside
+returns-clause-inside c = search inside_more

@@ -1,0 +1,8 @@
+-- `reported_place` is the definition `reported_place`, the one place that decides it. Assumes nothing.
+use mathlib.Core.Path.{refl}
+use Rattle.codec.specs.Header.{reported_place}
+use Rattle.der.proofs.header.reported_place.Goals as goal
+
+pub returns : goal.returns
+unfolding reported_place
+returns c = refl
