@@ -12,13 +12,13 @@ ghost use Rattle.checks.specs.Code.{of_number_tag, of_set_tag};
 use records::NumberSet;
 
 // A number, or the time or the count that it stands for.
-#[derive(Drop)]
+#[derive(Clone, Copy)]
 pub struct NumberTag {
     pub there: bool,
     pub value: u64,
 }
 
-#[derive(Drop)]
+#[derive(Clone, Copy)]
 pub struct SetTag {
     pub there: bool,
     pub set: NumberSet,

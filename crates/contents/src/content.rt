@@ -20,7 +20,7 @@ use schema::Kind;
 
 // A plain field's content: a number; or a part of the bytes, its start and its length; or neither, of a NULL; or a refusal
 // with its place.
-#[derive(Drop)]
+#[derive(Clone, Copy)]
 pub enum Plain {
     Is(u64, u64),
     Refused(u8, usize),
@@ -86,14 +86,14 @@ fn plain_at(s: &[u8], at: usize, end: usize, kind: Kind) -> Plain
 }
 
 // Whether a content ends where its holder does, and is right; or a refusal with its place.
-#[derive(Drop)]
+#[derive(Clone, Copy)]
 pub enum Fit {
     Whole,
     Refused(u8, usize),
 }
 
 // A set that is all of its holder's content; beside a refusal stands an empty one.
-#[derive(Drop)]
+#[derive(Clone, Copy)]
 pub struct SetContent {
     pub fit: Fit,
     pub set: NumberSet,
@@ -148,7 +148,7 @@ fn set_at(s: &[u8], at: usize, end: usize) -> SetContent
 }
 
 // A root of trust that is all of its holder's content; or a refusal with its place.
-#[derive(Drop)]
+#[derive(Clone, Copy)]
 pub enum RootContent {
     Is(RootOfTrust),
     Refused(u8, usize),

@@ -7,7 +7,7 @@ use answer::WRONG_ELEMENT;
 use der::header::{Header, clipped, read_header};
 
 // An element: its identifier, and its content from body to stop; or a refusal with its place.
-#[derive(Drop)]
+#[derive(Clone, Copy)]
 pub enum Element {
     Is {
         form: u8,
@@ -45,7 +45,7 @@ fn element_at(s: &[u8], at: usize, end: usize) -> Element
 }
 
 // The content of an element of a known identifier, from body to stop; or a refusal with its place.
-#[derive(Drop)]
+#[derive(Clone, Copy)]
 pub enum Tagged {
     Is(usize, usize),
     Refused(u8, usize),
@@ -77,7 +77,7 @@ fn open_long(s: &[u8], at: usize, end: usize, form: u8, number: usize) -> Tagged
 }
 
 // Where a content lies, by a short way; where that does not serve, none.
-#[derive(Drop)]
+#[derive(Clone, Copy)]
 pub(crate) enum Lies {
     Is(usize, usize),
     No,

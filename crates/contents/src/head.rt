@@ -12,14 +12,14 @@ use records::{Part, Security};
 use schema::version::{known_version, level_top};
 
 // A version with its security level, and the next place; or a refusal with its place.
-#[derive(Drop)]
+#[derive(Clone, Copy)]
 pub(crate) enum Secured {
     Is(Security, usize),
     Refused(u8, usize),
 }
 
 // The challenge and the unique id, and the next place; or a refusal with its place.
-#[derive(Drop)]
+#[derive(Clone, Copy)]
 pub(crate) enum Names {
     Is {
         challenge: Part,
@@ -30,7 +30,7 @@ pub(crate) enum Names {
 }
 
 // All six, and the next place; or a refusal with its place.
-#[derive(Drop)]
+#[derive(Clone, Copy)]
 pub enum Head {
     Is {
         attestation: Security,

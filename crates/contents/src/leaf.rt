@@ -10,21 +10,21 @@ use crate::element::{Tagged, tagged_at};
 use answer::BAD_CONTENT;
 
 // The number that content octets spell, shortest, not negative and within its top; or content that is wrong.
-#[derive(Drop)]
+#[derive(Clone, Copy)]
 pub(crate) enum Value {
     Is(u64),
     Wrong,
 }
 
 // A number and the next place; or a refusal with its place. Of a BOOLEAN, 0 or 1; of a NULL, 0.
-#[derive(Drop)]
+#[derive(Clone, Copy)]
 pub(crate) enum Number {
     Is(u64, usize),
     Refused(u8, usize),
 }
 
 // The content of an OCTET STRING, as a part of the bytes, and the next place; or a refusal with its place.
-#[derive(Drop)]
+#[derive(Clone, Copy)]
 pub(crate) enum Octets {
     Is {
         start: usize,

@@ -11,7 +11,7 @@ use answer::WRONG_ELEMENT;
 use records::{Part, RootOfTrust};
 
 // A root of trust and the next place; or a refusal with its place.
-#[derive(Drop)]
+#[derive(Clone, Copy)]
 pub(crate) enum Root {
     Is(RootOfTrust, usize),
     Refused(u8, usize),

@@ -12,14 +12,14 @@ use answer::{MEMBER_ORDER, TOO_MANY_MEMBERS};
 use records::NumberSet;
 
 // The next place; or a refusal with its place.
-#[derive(Drop)]
+#[derive(Clone, Copy)]
 pub enum Step {
     Past(usize),
     Refused(u8, usize),
 }
 
 // A set, and the next place; where it is refused, the members up to there.
-#[derive(Drop)]
+#[derive(Clone, Copy)]
 pub(crate) struct SetRead {
     pub step: Step,
     pub set: NumberSet,

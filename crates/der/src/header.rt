@@ -10,7 +10,7 @@ use answer::{BAD_IDENTIFIER, BAD_LENGTH, RUNS_OUT};
 
 // An identifier: the three high bits of its first octet (the lowest of them is bit 6, "holds elements"), its tag
 // number and the next place; or a refusal and the octet at fault.
-#[derive(Drop)]
+#[derive(Clone, Copy)]
 pub(crate) enum Identifier {
     Is {
         form: u8,
@@ -21,14 +21,14 @@ pub(crate) enum Identifier {
 }
 
 // A length and the next place; or a refusal and the octet at fault.
-#[derive(Drop)]
+#[derive(Clone, Copy)]
 pub(crate) enum Length {
     Is(usize, usize),
     Refused(u8, usize),
 }
 
 // A header, and where the content begins, which stands whole before the holder's end; or a refusal with its place.
-#[derive(Drop)]
+#[derive(Clone, Copy)]
 pub enum Header {
     Is {
         form: u8,
@@ -143,7 +143,7 @@ fn read_length(s: &[u8], at: usize, end: usize) -> Length
 }
 
 // An identifier of one octet or of three, which most have; of any other nothing is said.
-#[derive(Drop)]
+#[derive(Clone, Copy)]
 pub(crate) enum Short {
     Is {
         form: u8,
@@ -192,7 +192,7 @@ pub(crate) fn short_at(s: &[u8], at: usize, end: usize) -> Short
 
 // The content after a length: from where to where it lies; none where the length is against the rules or the content does
 // not stand whole before the holder's end.
-#[derive(Drop)]
+#[derive(Clone, Copy)]
 pub(crate) enum Extent {
     Is(usize, usize),
     No,

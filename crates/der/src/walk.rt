@@ -18,7 +18,7 @@ const EXTENSION_DEPTH: usize = 8;
 const EXTENSION_ELEMENTS: usize = 512;
 
 // How much input is taken: bytes, levels of nesting and elements.
-#[derive(Drop)]
+#[derive(Clone, Copy)]
 pub struct Limits {
     pub bytes: usize,
     pub depth: usize,
@@ -38,14 +38,14 @@ impl Limits {
 }
 
 // Past an element or a run: the next place, and how many elements were met so far; or a refusal with its place.
-#[derive(Drop)]
+#[derive(Clone, Copy)]
 pub(crate) enum Step {
     Past(usize, usize),
     Refused(u8, usize),
 }
 
 // What the first pass answers: how many elements it met; or a refusal with its place.
-#[derive(Drop)]
+#[derive(Clone, Copy)]
 pub enum Walked {
     Accepted(usize),
     Refused(u8, usize),
@@ -83,7 +83,7 @@ fn walk_element(s: &[u8], at: usize, end: usize, depth: usize, met: usize, most:
 }
 
 // Past an element that a quick look takes whole: the next place, and how many elements were met so far.
-#[derive(Drop)]
+#[derive(Clone, Copy)]
 pub(crate) enum Quick {
     Past(usize, usize),
     No,

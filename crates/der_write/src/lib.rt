@@ -11,7 +11,7 @@ ghost use Rattle.der_write.specs.Write.{of_put, header_put, header_left, room_fo
 use answer::{BAD_IDENTIFIER, BAD_LENGTH, OUTPUT_SHORT};
 
 // The place after what was written; or a refusal with its place.
-#[derive(Drop)]
+#[derive(Clone, Copy)]
 pub enum Put {
     Next(usize),
     Refused(u8, usize),

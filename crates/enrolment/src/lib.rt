@@ -16,7 +16,7 @@ use shape::parts::parts_inside;
 use shape::well_shaped;
 
 // The key may be taken on; or the first refusal, with place 0.
-#[derive(Drop)]
+#[derive(Clone, Copy)]
 pub enum Enrolment {
     Enrolled,
     Refused(u8, usize),

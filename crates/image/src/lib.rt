@@ -16,7 +16,7 @@ use records::Record;
 
 // The record of an image where refusal is 0. It is 200 where the image has too few words and 20 where one that is looked
 // at is that of no record; the record then says nothing.
-#[derive(Drop)]
+#[derive(Clone, Copy)]
 pub struct Imaged {
     pub refusal: u8,
     pub said: Record,

@@ -298,7 +298,7 @@ fn put_record(out: &mut [u8], s: &[u8], r: Record, count: usize) -> usize
 }
 
 // How long the text is that now stands at the front of the output; or the output is too short, and is as it was.
-#[derive(Drop)]
+#[derive(Clone, Copy)]
 pub enum Listed {
     Wrote(usize),
     Short,

@@ -12,7 +12,7 @@ use schema::{Kind, ROWS};
 use shape::parts::inside;
 
 // What asking for an octet field answers: its part's start and length; that there is none; or a refusal with its place.
-#[derive(Drop)]
+#[derive(Clone, Copy)]
 pub enum Asked {
     At(usize, usize),
     Absent,

@@ -33,7 +33,7 @@ pub fn empty_record() -> Record
 
 // All before the lists: the count of elements, the first six of the eight, the first list's place and where the eight are to
 // stop; or a refusal with its place.
-#[derive(Drop)]
+#[derive(Clone, Copy)]
 pub(crate) enum Opening {
     Is {
         count: usize,

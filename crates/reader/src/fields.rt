@@ -18,7 +18,7 @@ use records::{FieldList, Part, RootOfTrust};
 use schema::{Kind, ROWS, held, row_at, row_of};
 
 // A field: its row and number, and its content from body to stop; or a refusal with its place.
-#[derive(Drop)]
+#[derive(Clone, Copy)]
 pub(crate) enum FieldHead {
     Is {
         row: usize,
@@ -91,7 +91,7 @@ fn open_field(s: &[u8], at: usize, end: usize, version: u32, low: usize) -> Fiel
 }
 
 // A list, and the next place; where it is refused, the fields up to there.
-#[derive(Drop)]
+#[derive(Clone, Copy)]
 pub(crate) struct ListRead {
     pub step: Step,
     pub list: FieldList,

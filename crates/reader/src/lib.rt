@@ -14,7 +14,7 @@ use contents::set::Step;
 use records::Record;
 
 // Accepted, with the count of elements; or a refusal with its place.
-#[derive(Drop)]
+#[derive(Clone, Copy)]
 pub enum Outcome {
     Accepted(usize),
     Refused(u8, usize),
@@ -22,7 +22,7 @@ pub enum Outcome {
 
 // What a read answers. Where it is accepted the record, its octet parts taken from the bytes that were read, says what they
 // say; where it is refused the record says nothing.
-#[derive(Drop)]
+#[derive(Clone, Copy)]
 pub struct Reading {
     pub outcome: Outcome,
     pub said: Record,

@@ -18,10 +18,10 @@ pub says-shaped : SaysShaped
 says-shaped r i j t = content_shaped r place_at i j t
 
 pub places_read : PlacesRead
-places_read = read.places-read
+places_read = read.places_read
 
 pub made-says : MadeSays
 made-says = making.made-says
 
 pub parts_lie : PartsLie
-parts_lie = lie.parts-lie
+parts_lie = lie.parts_lie

@@ -5,7 +5,7 @@ use schema::ROWS;
 
 // Octets of the buffer, from start on. Document 01's "octet part".
 #[repr(C)]
-#[derive(Drop)]
+#[derive(Clone, Copy)]
 pub struct Part {
     pub start: usize,
     pub len: usize,
@@ -13,7 +13,7 @@ pub struct Part {
 
 // "A set holds at most 16 numbers to 2^32-1, kept with their count". Slots from count on are never looked at.
 #[repr(C)]
-#[derive(Drop)]
+#[derive(Clone, Copy)]
 pub struct NumberSet {
     pub members: [u32; 16],
     pub count: usize,
@@ -21,7 +21,7 @@ pub struct NumberSet {
 
 // Field 704. The hash is looked at only where hashed is set.
 #[repr(C)]
-#[derive(Drop)]
+#[derive(Clone, Copy)]
 pub struct RootOfTrust {
     pub key: Part,
     pub hash: Part,
@@ -34,7 +34,7 @@ pub struct RootOfTrust {
 // A number stands in values; an octet field's start in values and its length in sizes; each set and 704 in its own. The order
 // leaves few gaps, so that an empty list is cleared in few strokes.
 #[repr(C)]
-#[derive(Drop)]
+#[derive(Clone, Copy)]
 pub struct FieldList {
     pub present: [bool; ROWS],
     pub root: RootOfTrust,
@@ -48,14 +48,14 @@ pub struct FieldList {
 
 // A version and its security level: of the attestation, and of KeyMint.
 #[repr(C)]
-#[derive(Drop)]
+#[derive(Clone, Copy)]
 pub struct Security {
     pub version: u32,
     pub level: u32,
 }
 
 #[repr(C)]
-#[derive(Drop)]
+#[derive(Clone, Copy)]
 pub struct Record {
     pub attestation: Security,
     pub keymint: Security,

@@ -15,7 +15,7 @@ use request::Request;
 use rules::Rules;
 
 // A permit with its marks and how many bits are set in each; or a refusal with its place, which is 0.
-#[derive(Drop)]
+#[derive(Clone, Copy)]
 pub enum Ruling {
     Permit {
         hardware: u16,

@@ -2,7 +2,7 @@
 // answer.
 
 // The user's authentication, if there was one: its types, when it was, and the operation that it is for.
-#[derive(Drop)]
+#[derive(Clone, Copy)]
 pub struct Token {
     pub there: bool,
     pub kinds: u64,
@@ -11,7 +11,7 @@ pub struct Token {
 }
 
 // Clock and floor are ms since 1970, uptime and the token's time ms since the device started.
-#[derive(Drop)]
+#[derive(Clone, Copy)]
 pub struct Request {
     pub purpose: u64,
     pub digest: u64,

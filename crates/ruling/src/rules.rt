@@ -11,7 +11,7 @@ use records::{FieldList, NumberSet};
 use schema::ROWS;
 
 // A NULL tag is just there or not.
-#[derive(Drop)]
+#[derive(Clone, Copy)]
 pub(crate) struct Rules {
     pub(crate) purpose: SetTag,
     pub(crate) algorithm: NumberTag,

@@ -11,7 +11,7 @@ ghost use Rattle.schema.specs.Rows.{of_row};
 pub const ROWS: usize = 42;
 
 // How a field's content is read: document 01's kinds.
-#[derive(Drop)]
+#[derive(Clone, Copy)]
 pub enum Kind {
     Set,
     Number32,
@@ -21,7 +21,7 @@ pub enum Kind {
     Root,
 }
 
-#[derive(Drop)]
+#[derive(Clone, Copy)]
 pub struct Row {
     pub number: usize,
     pub kind: Kind,

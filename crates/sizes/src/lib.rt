@@ -21,7 +21,7 @@ use shape::set_of;
 const PAST_LIMIT: usize = EXTENSION_BYTES + 1;
 
 // Of the fields of each list and of the eight elements, without their headers; and of the whole encoding.
-#[derive(Drop)]
+#[derive(Clone, Copy)]
 pub struct Sizes {
     pub software: usize,
     pub hardware: usize,

@@ -15,7 +15,7 @@ use sizes::sizes_of;
 
 // How long the encoding is that now stands at the front of the output; or a refusal with its place, and the output is
 // as it was.
-#[derive(Drop)]
+#[derive(Clone, Copy)]
 pub enum Written {
     Wrote(usize),
     Refused(u8, usize),

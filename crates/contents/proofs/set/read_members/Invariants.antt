@@ -1,0 +1,13 @@
+-- `read_members` meets its contract: the slots up to here hold the members up to here. Assumes nothing.
+use mathlib.Core.Path.{refl}
+use Prim.Native.Nat.{◌-◌}
+use native.Mathlib.Omega.{arith}
+use Rattle.contents.proofs.Members.{Gathered, gathered_none, gathered_many, gathered_no, gathered_order, gathered_more, gathered_slots, gathered_all, number_small, number-inside}
+use borrow.Author.Rules.{rules}
+use Rattle.contents.proofs.set.read_members.Given as goal
+
+abbrev pub invariant-loop-place : goal.invariant-loop-place
+invariant-loop-place l = Gathered l.s l.at l.end l.set.members l.place l.low l.n
+
+abbrev pub decreases-loop-place : goal.decreases-loop-place
+decreases-loop-place l = l.end - l.place

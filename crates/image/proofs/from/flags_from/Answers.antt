@@ -1,0 +1,18 @@
+-- `flags_from` meets its contract: the slots passed hold the words passed. Assumes nothing.
+use mathlib.Core.Path.{refl}
+use mathlib.Core.List.{map}
+use Prim.Native.Nat.{◌-◌}
+use lib.ListN.{take}
+use Rattle.image.specs.Image.{is_set}
+use Rattle.image.proofs.Copies.{Copied, copied_none, mapped_more, mapped_all}
+use borrow.Author.Rules.{rules}
+use Rattle.image.proofs.from.flags_from.Goals as goal
+
+pub loop-k-init : goal.loop-k-init
+loop-k-init c = copied_none _ _ _ refl
+
+pub loop-k-preserved : goal.loop-k-preserved
+loop-k-preserved c = mapped_more 42 is_set c.args.words.now _ c.loop-k.k c.loop-k.invariant c.requires c.loop-k-test.true
+
+pub returns : goal.returns
+returns c = mapped_all 42 is_set c.args.words.now _ c.loop-k.k c.loop-k.invariant c.requires c.loop-k-test.false

@@ -1,0 +1,17 @@
+-- `record_from` meets its contract, part by part. Assumes nothing.
+use Rattle.image.specs.Image.{list_from}
+use Rattle.image.proofs.Fits.{from-drop}
+use Rattle.image.proofs.Parts.{record_made_lem}
+use borrow.Author.Rules.{rules}
+use Rattle.image.proofs.from.record_from.Goals as goal
+
+pub returns : goal.returns
+returns c =
+    let w = c.args.image.now in
+    record_made_lem w
+    c.security_from-attestation.ensures
+    c.security_from-keymint.ensures
+    c.part_from-challenge.ensures
+    c.part_from-unique.ensures
+    (from-drop list_from w 8 c.list_from-software.ensures)
+    (from-drop list_from w 209 c.list_from-hardware.ensures)

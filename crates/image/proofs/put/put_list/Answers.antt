@@ -1,0 +1,22 @@
+-- `put_list` meets its contract: one write after the other. Assumes nothing.
+use Rattle.image.proofs.Puts.{list_put}
+use borrow.Author.Rules.{rules}
+use Rattle.image.proofs.put.put_list.Goals as goal
+
+pub returns-clause-is : goal.returns-clause-is
+returns-clause-is c =
+    (list_put c.args.out.now c.args.at c.args.l c.requires
+    c.put_flags.ensures
+    c.put_numbers.ensures
+    c.put_numbers-2.ensures
+    c.put_sets.ensures
+    c.put_root.ensures).0
+
+pub returns-clause-whole : goal.returns-clause-whole
+returns-clause-whole c =
+    (list_put c.args.out.now c.args.at c.args.l c.requires
+    c.put_flags.ensures
+    c.put_numbers.ensures
+    c.put_numbers-2.ensures
+    c.put_sets.ensures
+    c.put_root.ensures).1

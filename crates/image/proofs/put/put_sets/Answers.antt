@@ -1,0 +1,20 @@
+-- `put_sets` meets its contract: one write after the other. Assumes nothing.
+use Rattle.image.proofs.Puts.{sets-put}
+use borrow.Author.Rules.{rules}
+use Rattle.image.proofs.put.put_sets.Goals as goal
+
+pub returns-clause-is : goal.returns-clause-is
+returns-clause-is c =
+    (sets-put c.args.out.now c.args.at c.args.l c.requires
+    c.put_set.ensures
+    c.put_set-2.ensures
+    c.put_set-3.ensures
+    c.put_set-4.ensures).0
+
+pub returns-clause-whole : goal.returns-clause-whole
+returns-clause-whole c =
+    (sets-put c.args.out.now c.args.at c.args.l c.requires
+    c.put_set.ensures
+    c.put_set-2.ensures
+    c.put_set-3.ensures
+    c.put_set-4.ensures).1
