@@ -138,20 +138,14 @@ module _ (n : ℕ) (purpose digest padding mgf : NumberSet) where
   set-mgf a b d = rw (ne_eqb n 1 a, ne_eqb n 5 b, ne_eqb n 6 d) refl
 
 -- a number, by its kind
-other_plain : (q : code.Kind) (n : ℕ) → OneOf (0 ∷ 3 ∷ 4 ∷ 5 ∷ []) (tag_of kinds.the_type q) → true ≡ plain_shaped (of_kind q) n
+other_plain : (q : code.Kind) (n : ℕ) → (q ≡ code.Kind.Number32 → ⊥) → (q ≡ code.Kind.Number64 → ⊥) → true ≡ plain_shaped (of_kind q) n
 unfolding plain_shaped
-other_plain code.Kind.Set n o = refl
-other_plain code.Kind.Number32 n (inl e) = absurd (omega arith)
-other_plain code.Kind.Number32 n (inr (inl e)) = absurd (omega arith)
-other_plain code.Kind.Number32 n (inr (inr (inl e))) = absurd (omega arith)
-other_plain code.Kind.Number32 n (inr (inr (inr e))) = absurd (omega arith)
-other_plain code.Kind.Number64 n (inl e) = absurd (omega arith)
-other_plain code.Kind.Number64 n (inr (inl e)) = absurd (omega arith)
-other_plain code.Kind.Number64 n (inr (inr (inl e))) = absurd (omega arith)
-other_plain code.Kind.Number64 n (inr (inr (inr e))) = absurd (omega arith)
-other_plain code.Kind.Null n o = refl
-other_plain code.Kind.Octets n o = refl
-other_plain code.Kind.Root n o = refl
+other_plain code.Kind.Set n a b = refl
+other_plain code.Kind.Number32 n a b = absurd (a refl)
+other_plain code.Kind.Number64 n a b = absurd (b refl)
+other_plain code.Kind.Null n a b = refl
+other_plain code.Kind.Octets n a b = refl
+other_plain code.Kind.Root n a b = refl
 
 module _ (q : code.Kind) (n : ℕ) where
   pub plain_number32 : q ≡ code.Kind.Number32 → leb n top32 ≡ plain_shaped (of_kind q) n
@@ -162,8 +156,8 @@ module _ (q : code.Kind) (n : ℕ) where
   unfolding plain_shaped
   plain_number64 e = rw e refl
 
-  pub plain_other : OneOf (0 ∷ 3 ∷ 4 ∷ 5 ∷ []) (tag_of kinds.the_type q) → true ≡ plain_shaped (of_kind q) n
-  plain_other o = other_plain q n o
+  pub plain_other : (q ≡ code.Kind.Number32 → ⊥) → (q ≡ code.Kind.Number64 → ⊥) → true ≡ plain_shaped (of_kind q) n
+  plain_other a b = other_plain q n a b
 
 -- ---- the rows of a list
 

@@ -10,4 +10,4 @@ pub returns-in-Number64 : goal.returns-in-Number64
 returns-in-Number64 c = search plain_number64
 
 pub returns-in_default : goal.returns-in_default
-returns-in_default c = search plain_other
+returns-in_default c = plain_other c.args.kind c.args.value c.in_default.not-Number32 c.in_default.not-Number64

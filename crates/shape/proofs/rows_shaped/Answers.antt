@@ -7,6 +7,8 @@ use Rattle.shape.specs.Plain.{row_plain}
 use Rattle.shape.proofs.Shapes.{rows_begin, row-absent, not_held, row_bad, row_good_lem, rows_end}
 use borrow.Author.Rules.{rules}
 use Rattle.schema.specs.Table.{row_count}
+use mathlib.Core.Path.{ap}
+use mathlib.Core.Bool.{not}
 use Rattle.shape.proofs.rows_shaped.Goals as goal
 
 pub loop-k-init : goal.loop-k-init
@@ -19,7 +21,7 @@ pub returns-then-not-plain_shaped : goal.returns-then-not-plain_shaped
 returns-then-not-plain_shaped c = search row_bad
 
 pub loop-k-preserved-then-l-k : goal.loop-k-preserved-then-l-k
-loop-k-preserved-then-l-k c = row_good_lem _ _ _ c.loop-k.invariant c.loop-k-test.true c.if-l-k.true c.row_at-row.result c.row_at-row.ensures c.held.result c.held.ensures c.if-not-held.false c.plain_shaped.result c.plain_shaped.ensures c.if-not-plain_shaped.false
+loop-k-preserved-then-l-k c = row_good_lem _ _ _ c.loop-k.invariant c.loop-k-test.true c.if-l-k.true c.row_at-row.result c.row_at-row.ensures c.held.result c.held.ensures (ap not c.if-not-held.false) c.plain_shaped.result c.plain_shaped.ensures (ap not c.if-not-plain_shaped.false)
 
 pub loop-k-preserved : goal.loop-k-preserved
 loop-k-preserved c = search row-absent

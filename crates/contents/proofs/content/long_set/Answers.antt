@@ -19,4 +19,4 @@ pub returns-else-next-end-clause-is : goal.returns-else-next-end-clause-is
 returns-else-next-end-clause-is c = search set_content_is
 
 pub returns-else-next-end-clause-slots : goal.returns-else-next-end-clause-slots
-returns-else-next-end-clause-slots c = past_slots _ _ _ c.read_set-got.ensures.inside.1 c.in-Past.is
+returns-else-next-end-clause-slots c = past_slots _ _ _ c.read_set-got.ensures.slots c.in-Past.is

@@ -6,17 +6,17 @@ use Rattle.image.proofs.put.put_list.Goals as goal
 pub returns-clause-is : goal.returns-clause-is
 returns-clause-is c =
     (list_put c.args.out.now c.args.at c.args.l c.requires
-    c.put_flags.ensures
-    c.put_numbers.ensures
-    c.put_numbers-2.ensures
-    c.put_sets.ensures
-    c.put_root.ensures).0
+    (c.put_flags.ensures.is, c.put_flags.ensures.whole)
+    (c.put_numbers.ensures.is, c.put_numbers.ensures.whole)
+    (c.put_numbers-2.ensures.is, c.put_numbers-2.ensures.whole)
+    (c.put_sets.ensures.is, c.put_sets.ensures.whole)
+    (c.put_root.ensures.is, c.put_root.ensures.whole)).0
 
 pub returns-clause-whole : goal.returns-clause-whole
 returns-clause-whole c =
     (list_put c.args.out.now c.args.at c.args.l c.requires
-    c.put_flags.ensures
-    c.put_numbers.ensures
-    c.put_numbers-2.ensures
-    c.put_sets.ensures
-    c.put_root.ensures).1
+    (c.put_flags.ensures.is, c.put_flags.ensures.whole)
+    (c.put_numbers.ensures.is, c.put_numbers.ensures.whole)
+    (c.put_numbers-2.ensures.is, c.put_numbers-2.ensures.whole)
+    (c.put_sets.ensures.is, c.put_sets.ensures.whole)
+    (c.put_root.ensures.is, c.put_root.ensures.whole)).1

@@ -3,6 +3,8 @@ use Prim.Native.Nat.{◌-◌}
 use Rattle.shape.proofs.Buffer.{SoFar, rows_begin, row-absent, row-outside, row_inside_lem, rows_end}
 use borrow.Author.Rules.{rules}
 use Rattle.schema.specs.Table.{row_count}
+use mathlib.Core.Path.{ap}
+use mathlib.Core.Bool.{not}
 use Rattle.shape.proofs.parts.list_inside.Goals as goal
 
 pub loop-k-init : goal.loop-k-init
@@ -15,7 +17,7 @@ pub loop-k-preserved-then-l-k : goal.loop-k-preserved-then-l-k
 loop-k-preserved-then-l-k c =
     let k = c.loop-k in
     let a = c.args in
-    row_inside_lem a.t1 a.len k.k c.loop-k-test.true c.row_at-row.result c.content_inside.result c.if-l-k.true c.row_at-row.ensures c.content_inside.ensures k.invariant c.if-not-content_inside.false
+    row_inside_lem a.l a.len k.k c.loop-k-test.true c.row_at-row.result c.content_inside.result c.if-l-k.true c.row_at-row.ensures c.content_inside.ensures k.invariant (ap not c.if-not-content_inside.false)
 
 pub loop-k-preserved : goal.loop-k-preserved
 loop-k-preserved c = search row-absent
