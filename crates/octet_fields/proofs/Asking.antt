@@ -64,17 +64,13 @@ no_part null start size len = refl
 no_part octets start size len = refl
 no_part root start size len = refl
 
-other_kind : (k : code.Kind) (p : Bool) (start size len : ℕ) → OneOf (0 ∷ 1 ∷ 2 ∷ 3 ∷ 5 ∷ []) (tag_of kinds.the_type k) → got none ≡ asked_in (of_kind k) p start size len
+other_kind : (k : code.Kind) (p : Bool) (start size len : ℕ) → (k ≡ code.Kind.Octets → ⊥) → got none ≡ asked_in (of_kind k) p start size len
 unfolding asked_in
 other_kind code.Kind.Set p start size len o = refl
 other_kind code.Kind.Number32 p start size len o = refl
 other_kind code.Kind.Number64 p start size len o = refl
 other_kind code.Kind.Null p start size len o = refl
-other_kind code.Kind.Octets p start size len (inl e) = absurd (omega arith)
-other_kind code.Kind.Octets p start size len (inr (inl e)) = absurd (omega arith)
-other_kind code.Kind.Octets p start size len (inr (inr (inl e))) = absurd (omega arith)
-other_kind code.Kind.Octets p start size len (inr (inr (inr (inl e)))) = absurd (omega arith)
-other_kind code.Kind.Octets p start size len (inr (inr (inr (inr e)))) = absurd (omega arith)
+other_kind code.Kind.Octets p start size len o = absurd (o refl)
 other_kind code.Kind.Root p start size len o = refl
 
 module _ (l : FieldList) (number len k : ℕ) (i : k ≡ index_of rows number) where
@@ -87,7 +83,7 @@ module _ (l : FieldList) (number len k : ℕ) (i : k ≡ index_of rows number) w
   field-absent n = rw (← i, not-true (get_or l.present k false) n) (no_part (row_at k).kind (get_or l.values k 0) (get_or l.sizes k 0) len)
 
   module _ (r : Row) (f : of_row r ≡ row_at k) where
-    pub no_octets : OneOf (0 ∷ 1 ∷ 2 ∷ 3 ∷ 5 ∷ []) (tag_of kinds.the_type r.kind) → got none ≡ asked_at l (index_of rows number) len
+    pub no_octets : (r.kind ≡ code.Kind.Octets → ⊥) → got none ≡ asked_at l (index_of rows number) len
     unfolding asked_at
     no_octets o = rw (← i, ← f) (other_kind r.kind (get_or l.present k false) (get_or l.values k 0) (get_or l.sizes k 0) len o)
 
@@ -126,12 +122,11 @@ module _ (s : List ℕ) (r : Record) (hardware : Bool) (number : ℕ) (x : Asked
       let n : a + z - a ≡ z = omega arith in
       rw (n, ← e, f) refl
 
-  pub asked-nothing : OneOf (1 ∷ 2 ∷ []) (tag_of answers.the_type x) → [] ≡ octet_field_of s r hardware number
+  pub asked-nothing : ((a z : ℕ) → x ≡ Asked.At a z → ⊥) → [] ≡ octet_field_of s r hardware number
   asked-nothing o = rw (← e) (go x o)
     where
-      go : (y : Asked) → OneOf (1 ∷ 2 ∷ []) (tag_of answers.the_type y) → [] ≡ part_asked s (of_asked y)
-      go (Asked.At a z) (inl q) = absurd (omega arith)
-      go (Asked.At a z) (inr q) = absurd (omega arith)
+      go : (y : Asked) → ((a z : ℕ) → y ≡ Asked.At a z → ⊥) → [] ≡ part_asked s (of_asked y)
+      go (Asked.At a z) q = absurd (q a z refl)
       go Asked.Absent q = refl
       go (Asked.Refused n p) q = refl
 
@@ -139,12 +134,11 @@ module _ (s : List ℕ) (r : Record) (hardware : Bool) (number : ℕ) (x : Asked
   pub asked-start : (a z : ℕ) → x ≡ Asked.At a z → a ≡ start_asked (asked_octets r hardware number (length s))
   asked-start a z f = rw (← e, f) refl
 
-  pub nothing-start : OneOf (1 ∷ 2 ∷ []) (tag_of answers.the_type x) → 0 ≡ start_asked (asked_octets r hardware number (length s))
+  pub nothing-start : ((a z : ℕ) → x ≡ Asked.At a z → ⊥) → 0 ≡ start_asked (asked_octets r hardware number (length s))
   nothing-start o = rw (← e) (go x o)
     where
-      go : (y : Asked) → OneOf (1 ∷ 2 ∷ []) (tag_of answers.the_type y) → 0 ≡ start_asked (of_asked y)
-      go (Asked.At a z) (inl q) = absurd (omega arith)
-      go (Asked.At a z) (inr q) = absurd (omega arith)
+      go : (y : Asked) → ((a z : ℕ) → y ≡ Asked.At a z → ⊥) → 0 ≡ start_asked (of_asked y)
+      go (Asked.At a z) q = absurd (q a z refl)
       go Asked.Absent q = refl
       go (Asked.Refused n p) q = refl
 

@@ -1,0 +1,40 @@
+-- `list_record` meets its contract: an output with the room for any record has it for this one, so all of its text stands
+-- there; a shorter one is not touched. Assumes nothing.
+use native.Mathlib.Omega.{arith}
+use lib.ListN.{length}
+use borrow.Author.Rules.{rules}
+use Rattle.records.specs.Content.{content_of}
+use Rattle.listing.proofs.Writes.{short, wrote}
+use Rattle.listing.specs.Text.{content_text}
+use Rattle.listing.specs.Room.{needed}
+use Rattle.listing.proofs.list_record.Goals as goal
+
+pub returns-then-room-lt32768-clause-answer : goal.returns-then-room-lt32768-clause-answer
+returns-then-room-lt32768-clause-answer c =
+    let a = c.args in
+    (short a.out.now (content_text (content_of a.r a.s.now) a.count) (needed (length a.s.now)) (omega arith)).0
+
+pub returns-then-room-lt32768-clause-output : goal.returns-then-room-lt32768-clause-output
+returns-then-room-lt32768-clause-output c =
+    let a = c.args in
+    (short a.out.now (content_text (content_of a.r a.s.now) a.count) (needed (length a.s.now)) (omega arith)).1
+
+pub returns-then-room-s-clause-answer : goal.returns-then-room-s-clause-answer
+returns-then-room-s-clause-answer c =
+    let a = c.args in
+    (short a.out.now (content_text (content_of a.r a.s.now) a.count) (needed (length a.s.now)) (omega arith)).0
+
+pub returns-then-room-s-clause-output : goal.returns-then-room-s-clause-output
+returns-then-room-s-clause-output c =
+    let a = c.args in
+    (short a.out.now (content_text (content_of a.r a.s.now) a.count) (needed (length a.s.now)) (omega arith)).1
+
+pub returns-clause-answer : goal.returns-clause-answer
+returns-clause-answer c =
+    let a = c.args in
+    (wrote a.out.now (content_text (content_of a.r a.s.now) a.count) (needed (length a.s.now)) (omega (arith, c.if-room-s.false, c.if-room-lt32768.false)) c.put_record.ensures).0
+
+pub returns-clause-output : goal.returns-clause-output
+returns-clause-output c =
+    let a = c.args in
+    (wrote a.out.now (content_text (content_of a.r a.s.now) a.count) (needed (length a.s.now)) (omega (arith, c.if-room-s.false, c.if-room-lt32768.false)) c.put_record.ensures).1
