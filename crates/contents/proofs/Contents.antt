@@ -202,20 +202,14 @@ module _ (s : List ℕ) (at end : ℕ) where
 
 -- ---- kinds that are plain
 
-pub is_plain_lem : (k : Kind) → OneOf (1 ∷ 2 ∷ 3 ∷ 4 ∷ []) (tag_of kinds.the_type k) → is_plain (of_kind k) ≡ true
+pub is_plain_lem : (k : Kind) → (k ≡ Kind.Set → ⊥) → (k ≡ Kind.Root → ⊥) → is_plain (of_kind k) ≡ true
 unfolding is_plain
-is_plain_lem Kind.Number32 o = refl
-is_plain_lem Kind.Number64 o = refl
-is_plain_lem Kind.Null o = refl
-is_plain_lem Kind.Octets o = refl
-is_plain_lem Kind.Set (inl e) = absurd (omega arith)
-is_plain_lem Kind.Set (inr (inl e)) = absurd (omega arith)
-is_plain_lem Kind.Set (inr (inr (inl e))) = absurd (omega arith)
-is_plain_lem Kind.Set (inr (inr (inr e))) = absurd (omega arith)
-is_plain_lem Kind.Root (inl e) = absurd (omega arith)
-is_plain_lem Kind.Root (inr (inl e)) = absurd (omega arith)
-is_plain_lem Kind.Root (inr (inr (inl e))) = absurd (omega arith)
-is_plain_lem Kind.Root (inr (inr (inr e))) = absurd (omega arith)
+is_plain_lem Kind.Number32 o p = refl
+is_plain_lem Kind.Number64 o p = refl
+is_plain_lem Kind.Null o p = refl
+is_plain_lem Kind.Octets o p = refl
+is_plain_lem Kind.Set o p = absurd (o refl)
+is_plain_lem Kind.Root o p = absurd (p refl)
 
 pub plain_row : (row : ℕ) → is_plain (row_at row).kind ≡ true → (row ≡ 0 → ⊥) × (row ≡ 3 → ⊥) × (row ≡ 4 → ⊥) × (row ≡ 7 → ⊥) × (row ≡ 26 → ⊥)
 unfolding is_plain rows

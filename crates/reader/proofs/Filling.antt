@@ -137,14 +137,14 @@ module _ (s : List ℕ) (at end v : ℕ) (fit : end ≤ length s) where
             → of_plain (λ y z. content_value (of_kind i.kind) (plain_content y z)) p ≡ read_value as_place v (of_kind i.kind) place b (slice b x s)
         plainly p y a = a.is y v place
 
-        pub plain_no : (k q : ℕ) (p : Plain) → OneOf (1 ∷ 2 ∷ 3 ∷ 4 ∷ []) (tag_of kinds.the_type i.kind) → PlainRead (of_kind i.kind) b (slice b x s) p → p ≡ Plain.Refused k q → refused k q ≡ fields_from v at (slice at end s)
-        plain_no k q p y a u = content_no k q (rw u at (plainly p (is_plain_lem i.kind y) a))
+        pub plain_no : (k q : ℕ) (p : Plain) → (i.kind ≡ codeKind.Set → ⊥) → (i.kind ≡ codeKind.Root → ⊥) → PlainRead (of_kind i.kind) b (slice b x s) p → p ≡ Plain.Refused k q → refused k q ≡ fields_from v at (slice at end s)
+        plain_no k q p y w a u = content_no k q (rw u at (plainly p (is_plain_lem i.kind y w) a))
 
-        pub plain_is : (y z : ℕ) (p : Plain) → OneOf (1 ∷ 2 ∷ 3 ∷ 4 ∷ []) (tag_of kinds.the_type i.kind) → PlainRead (of_kind i.kind) b (slice b x s) p → PlainKept (of_kind i.kind) (length s) p → p ≡ Plain.Is y z
+        pub plain_is : (y z : ℕ) (p : Plain) → (i.kind ≡ codeKind.Set → ⊥) → (i.kind ≡ codeKind.Root → ⊥) → PlainRead (of_kind i.kind) b (slice b x s) p → PlainKept (of_kind i.kind) (length s) p → p ≡ Plain.Is y z
             → Filled s at end v (stored l row y z l.purpose l.digest l.padding l.mgf l.root) x (n + 1)
         unfolding pick
-        plain_is y z p j a d u =
-            let t = is_plain_lem i.kind j in
+        plain_is y z p j w a d u =
+            let t = is_plain_lem i.kind j w in
             let ne = plain_row row (rw kind at t) in
             as_stored (plain_content y z) (rw u at (plainly p t a)) (subst (λ (u : Plain). PlainIn (uses_value (of_kind i.kind)) (uses_size (of_kind i.kind)) (length s) u) u (d t)) _
             (rw (ne_eqb row 0 ne.0, ne_eqb row 3 ne.1, ne_eqb row 4 ne.2, ne_eqb row 7 ne.3, ne_eqb row 26 ne.4) refl)

@@ -23,7 +23,7 @@ returns-in-Refused-last c =
     let second = c.read_list-second in
     let end = c.closed-last in
     let no = c.refused-in-Refused-last in
-    end_no s opening.result opening.ensures _ _ _ _ _ _ _ c.in-Is.is first.result.step first.result.list first.ensures.0 _ c.in-Past.is second.result.list second.result.step second.ensures.0 second.ensures.1.0 end.result end.ensures _ _ no.result c.in-Refused-last.is no.ensures
+    end_no s opening.result opening.ensures _ _ _ _ _ _ _ c.in-Is.is first.result.step first.result.list first.ensures.is _ c.in-Past.is second.result.list second.result.step second.ensures.is second.ensures.inside end.result end.ensures _ _ no.result c.in-Refused-last.is no.ensures
 
 pub returns-in-Past-last : goal.returns-in-Past-last
 returns-in-Past-last c =
@@ -32,4 +32,4 @@ returns-in-Past-last c =
     let first = c.read_list-first in
     let second = c.read_list-second in
     let end = c.closed-last in
-    read_is s opening.result opening.ensures _ _ _ _ _ _ _ c.in-Is.is first.result.step first.result.list first.ensures.0 _ c.in-Past.is second.result.list second.result.step second.ensures.0 second.ensures.1.0 end.result end.ensures _ c.in-Past-last.is c.shared_slice_known-1.given first.ensures.1.1 second.ensures.1.1
+    read_is s opening.result opening.ensures _ _ _ _ _ _ _ c.in-Is.is first.result.step first.result.list first.ensures.is _ c.in-Past.is second.result.list second.result.step second.ensures.is second.ensures.inside end.result end.ensures _ c.in-Past-last.is c.shared_slice_known-1.given first.ensures.bounds second.ensures.bounds

@@ -1,0 +1,22 @@
+-- `members_size` meets its contract. The invariant: the members before the i-th are counted. Assumes nothing.
+use Prim.Native.Nat.{◌-◌, ◌≤◌}
+use mathlib.Core.Path.{◌≡◌}
+use lib.ListN.{length, take}
+use Rattle.codec.specs.Integer.{integer_element}
+use Rattle.codec.specs.Element.{chain_octets}
+use Rattle.sizes.proofs.Sizing.{members-start, members_more, members-counted, members_all}
+use Rattle.sizes.specs.Size.{Sized}
+use borrow.Author.Rules.{rules}
+use Rattle.sizes.proofs.members_size.Goals as goal
+
+pub loop-i-init : goal.loop-i-init
+loop-i-init c = (search rules, search rules, search rules, search members-start)
+
+pub returns-then-count-i : goal.returns-then-count-i
+returns-then-count-i c = search members-counted
+
+pub loop-i-preserved : goal.loop-i-preserved
+loop-i-preserved c = (search rules, search rules, search rules, search members_more)
+
+pub returns : goal.returns
+returns c = search members_all
