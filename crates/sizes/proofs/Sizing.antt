@@ -229,20 +229,14 @@ module _ (l : FieldList) (s : List ℕ) (n k : ℕ) where
   unfolding value_at
   root-value kind e = rw e refl
 
-  pub plain_value_lem : (kind : Kind) → OneOf (1 ∷ 2 ∷ 3 ∷ 4 ∷ []) (tag_of kinds.the_type kind) → plain_value s (of_kind kind) (get_or l.values k 0) (get_or l.sizes k 0) ≡ value_at l (octets_at s) n (of_kind kind) k
+  pub plain_value_lem : (kind : Kind) → (kind ≡ Kind.Set → ⊥) → (kind ≡ Kind.Root → ⊥) → plain_value s (of_kind kind) (get_or l.values k 0) (get_or l.sizes k 0) ≡ value_at l (octets_at s) n (of_kind kind) k
   unfolding value_at plain_value
-  plain_value_lem Kind.Set (inl e) = absurd (omega arith)
-  plain_value_lem Kind.Set (inr (inl e)) = absurd (omega arith)
-  plain_value_lem Kind.Set (inr (inr (inl e))) = absurd (omega arith)
-  plain_value_lem Kind.Set (inr (inr (inr e))) = absurd (omega arith)
-  plain_value_lem Kind.Number32 o = refl
-  plain_value_lem Kind.Number64 o = refl
-  plain_value_lem Kind.Null o = refl
-  plain_value_lem Kind.Octets o = refl
-  plain_value_lem Kind.Root (inl e) = absurd (omega arith)
-  plain_value_lem Kind.Root (inr (inl e)) = absurd (omega arith)
-  plain_value_lem Kind.Root (inr (inr (inl e))) = absurd (omega arith)
-  plain_value_lem Kind.Root (inr (inr (inr e))) = absurd (omega arith)
+  plain_value_lem Kind.Set o p = absurd (o refl)
+  plain_value_lem Kind.Number32 o p = refl
+  plain_value_lem Kind.Number64 o p = refl
+  plain_value_lem Kind.Null o p = refl
+  plain_value_lem Kind.Octets o p = refl
+  plain_value_lem Kind.Root o p = absurd (p refl)
 
 -- the field of a row, from its value
 pub row_field : (l : FieldList) (s : List ℕ) (k : ℕ) (row : Row) (x : Value) → of_row row ≡ row_at k → x ≡ value_at l (octets_at s) row.number (of_kind row.kind) k
