@@ -50,10 +50,10 @@ one_answer s b =
     (a.0, a.1, a.2, λ o' r' g. same_answer s a.0 o' a.1 r' a.2 g)
 
 pub read-refuses : ReadRefuses
-read-refuses s k p r b g = refusals.reading-refuses Place as_place s b k p (sym g.is)
+read-refuses s k p r b g = refusals.reading_refuses Place as_place s b k p (sym g.is)
 
 pub schema_refuses : SchemaRefuses
-schema_refuses s k p r t b e g = refusals.after-first-pass Place as_place s t b e k p (sym g.is)
+schema_refuses s k p r t b e g = refusals.after_first_pass Place as_place s t b e k p (sym g.is)
 
 -- ---- what is accepted
 
