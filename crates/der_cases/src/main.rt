@@ -6,11 +6,13 @@
 // h: output length, place, form, number and size: what put_header answers and leaves.
 // i: output length, place and number: what put_integer answers and leaves.
 #![tactic(auto)]
-ghost use Rattle.std.specs.Prelude.{◌<◌, ◌≤◌};
+
+ghost use Rattle.std.specs.Prelude.{◌<◌, ◌≤◌, length, IfOk};
 
 use der::walk::{Limits, Walked};
 use der_write::Put;
-use libc::STDOUT_FILENO;
+use std::io;
+use std::io::Read;
 
 fn wide(x: u8) -> usize
     ensures { result < 256 }
@@ -37,46 +39,41 @@ fn word(s: &[u8], at: usize) -> u64 {
     value
 }
 
-fn say(text: &[u8]) {
-    io::write_all(STDOUT_FILENO, text);
+fn say(rt: &HostRuntime, text: &[u8]) -> io::Result<()> {
+    rt.write_all(text)
 }
 
-fn say_refusal(number: u8, place: usize) {
-    say(b"refused ");
-    io::print_decimal(STDOUT_FILENO, number as u64);
-    say(b" at ");
-    io::print_decimal(STDOUT_FILENO, place as u64);
+fn say_refusal(rt: &HostRuntime, number: u8, place: usize) -> io::Result<()> {
+    print!(rt; "refused {number} at {place}")
 }
 
-fn say_walked(answer: Walked) {
+fn say_walked(rt: &HostRuntime, answer: Walked) -> io::Result<()> {
     match answer {
-        Walked::Accepted(n) => {
-            say(b"elements ");
-            io::print_decimal(STDOUT_FILENO, n as u64);
-        }
-        Walked::Refused(number, place) => say_refusal(number, place),
+        Walked::Accepted(n) => print!(rt; "elements {n}"),
+        Walked::Refused(number, place) => say_refusal(rt, number, place),
     }
 }
 
-fn say_octet(x: u8) {
-    say(b" ");
-    io::print_hex(STDOUT_FILENO, x as u64, 2);
+fn say_octet(rt: &HostRuntime, x: u8) -> io::Result<()> {
+    print!(rt; " {x:02x}")
+}
+
+fn say_put(rt: &HostRuntime, answer: Put) -> io::Result<()> {
+    match answer {
+        Put::Next(place) => print!(rt; "next {place}"),
+        Put::Refused(number, place) => say_refusal(rt, number, place),
+    }
 }
 
 // The answer, and all of the output.
-fn say_written(answer: Put, out: &[u8; 16]) {
-    match answer {
-        Put::Next(place) => {
-            say(b"next ");
-            io::print_decimal(STDOUT_FILENO, place as u64);
-        }
-        Put::Refused(number, place) => say_refusal(number, place),
-    }
+fn say_written(rt: &HostRuntime, answer: Put, out: &[u8; 16]) -> io::Result<()> {
+    say_put(rt, answer)?;
     let mut k: usize = 0;
     while k < 16 {
-        say_octet(out[k]);
+        say_octet(rt, out[k])?;
         k += 1;
     }
+    Ok(())
 }
 
 // The part of s from a to e, or nothing where it does not lie in s.
@@ -89,9 +86,9 @@ fn part(s: &[u8], a: usize, e: usize) -> &[u8] {
 }
 
 // The place after what the case has, no less than at.
-fn walk_case(s: &[u8], at: usize) -> usize
+fn walk_case(rt: &HostRuntime, s: &[u8], at: usize) -> io::Result<usize>
     requires { at < 0x1_0000_0000 }
-    ensures { at ≤ result }
+    ensures { IfOk result (λ after. at ≤ after) }
 {
     let limits = Limits {
         bytes: word(s, at) as usize,
@@ -101,14 +98,14 @@ fn walk_case(s: &[u8], at: usize) -> usize
     let size = (word(s, at + 24) % 0x1_0000_0000) as usize;
     let start = at + 32;
     let stop = start + size;
-    say_walked(der::walk::walk(part(s, start, stop), limits));
-    say(b"\n");
-    stop
+    say_walked(rt, der::walk::walk(part(s, start, stop), limits))?;
+    say(rt, b"\n")?;
+    Ok(stop)
 }
 
-fn header_case(s: &[u8], at: usize) -> usize
+fn header_case(rt: &HostRuntime, s: &[u8], at: usize) -> io::Result<usize>
     requires { at < 0x1_0000_0000 }
-    ensures { at ≤ result }
+    ensures { IfOk result (λ after. at ≤ after) }
 {
     let mut out = [0xeeu8; 16];
     let n = (word(s, at) % 17) as usize;
@@ -117,60 +114,77 @@ fn header_case(s: &[u8], at: usize) -> usize
     let number = word(s, at + 24) as usize;
     let size = word(s, at + 32) as usize;
     let answer = der_write::put_header(&mut out[..n], place, form, number, size);
-    say_written(answer, &out);
-    say(b"\n");
-    at + 40
+    say_written(rt, answer, &out)?;
+    say(rt, b"\n")?;
+    Ok(at + 40)
 }
 
-fn integer_case(s: &[u8], at: usize) -> usize
+fn integer_case(rt: &HostRuntime, s: &[u8], at: usize) -> io::Result<usize>
     requires { at < 0x1_0000_0000 }
-    ensures { at ≤ result }
+    ensures { IfOk result (λ after. at ≤ after) }
 {
     let mut out = [0xeeu8; 16];
     let n = (word(s, at) % 17) as usize;
     let place = word(s, at + 8) as usize;
     let answer = der_write::put_integer(&mut out[..n], place, word(s, at + 16));
-    say_written(answer, &out);
-    say(b"\n");
-    at + 24
+    say_written(rt, answer, &out)?;
+    say(rt, b"\n")?;
+    Ok(at + 24)
 }
 
 // Runs the case at at, and answers the place after it.
-fn one_case(s: &[u8], at: usize) -> usize
+fn one_case(rt: &HostRuntime, s: &[u8], at: usize) -> io::Result<usize>
     requires { at < 0x1000_0000 }
-    ensures { at < result }
+    ensures { IfOk result (λ after. at < after) }
 {
     let kind = octet(s, at);
     let start = at + 2;
     let body = start + octet(s, at + 1);
-    say(part(s, start, body));
-    say(b": ");
+    say(rt, part(s, start, body))?;
+    say(rt, b": ")?;
     if kind == 119 {
-        return walk_case(s, body);
+        return walk_case(rt, s, body);
     }
     if kind == 104 {
-        return header_case(s, body);
+        return header_case(rt, s, body);
     }
     if kind == 105 {
-        return integer_case(s, body);
+        return integer_case(rt, s, body);
     }
-    say(b"no such kind\n");
-    body
+    say(rt, b"no such kind\n")?;
+    Ok(body)
 }
 
-fn all_cases(s: &[u8]) {
+fn all_cases(rt: &HostRuntime, s: &[u8]) -> io::Result<()> {
     let end = s.len();
     if 0x1000_0000 <= end {
-        return;
+        return Ok(());
     }
     let mut at: usize = 0;
     while at < end {
-        at = one_case(s, at);
+        at = one_case(rt, s, at)?;
     }
+    Ok(())
 }
 
-fn main() {
+// Reads until buf is full or the input ends, and answers how many octets stand at its front.
+fn read_full(rt: &HostRuntime, buf: &mut [u8]) -> io::Result<usize>
+    ensures { IfOk result (λ n. n ≤ length buf.new) }
+{
+    let mut input = rt.stdin();
+    let mut done: usize = 0;
+    while done < buf.len() {
+        let n = input.read(&mut buf[done..])?;
+        if n == 0 {
+            break;
+        }
+        done += n;
+    }
+    Ok(done)
+}
+
+fn main(rt: HostRuntime) -> io::Result<()> {
     let mut input = [0u8; 262144];
-    let n = io::read_full(0, &mut input);
-    all_cases(&input[..n]);
+    let n = read_full(&rt, &mut input)?;
+    all_cases(&rt, &input[..n])
 }

@@ -4,11 +4,13 @@
 // A case is the length of its name (one octet), its name, the length of the extension (two octets, highest first) and
 // the extension.
 #![tactic(auto)]
-ghost use Rattle.std.specs.Prelude.{◌<◌};
+
+ghost use Rattle.std.specs.Prelude.{◌<◌, ◌≤◌, length, IfOk};
 
 use extension_text::list_bytes;
-use libc::STDOUT_FILENO;
 use listing::Listed;
+use std::io;
+use std::io::Read;
 
 fn wide(x: u8) -> usize
     ensures { result < 256 }
@@ -23,8 +25,8 @@ fn octet(s: &[u8], at: usize) -> usize
     if at < s.len() { wide(s[at]) } else { 0 }
 }
 
-fn say(text: &[u8]) {
-    io::write_all(STDOUT_FILENO, text);
+fn say(rt: &HostRuntime, text: &[u8]) -> io::Result<()> {
+    rt.write_all(text)
 }
 
 // The part of s from a to e, or nothing where it does not lie in s.
@@ -36,43 +38,60 @@ fn part(s: &[u8], a: usize, e: usize) -> &[u8] {
     }
 }
 
-fn say_listed(listed: Listed, text: &[u8]) {
+fn say_listed(rt: &HostRuntime, listed: Listed, text: &[u8]) -> io::Result<()> {
     match listed {
-        Listed::Wrote(n) => say(part(text, 0, n)),
-        Listed::Short => say(b"short output\n"),
+        Listed::Wrote(n) => say(rt, part(text, 0, n)),
+        Listed::Short => say(rt, b"short output\n"),
     }
 }
 
 // Runs the case at at, and answers the place after it.
-fn one_case(s: &[u8], at: usize, out: &mut [u8]) -> usize
+fn one_case(rt: &HostRuntime, s: &[u8], at: usize, out: &mut [u8]) -> io::Result<usize>
     requires { at < 0x1000_0000 }
-    ensures { at < result }
+    ensures { IfOk result (λ after. at < after) }
 {
     let start = at + 1;
     let size = start + octet(s, at);
     let body = size + 2;
     let stop = body + 256 * octet(s, size) + octet(s, size + 1);
-    say(part(s, start, size));
-    say(b":\n");
+    say(rt, part(s, start, size))?;
+    say(rt, b":\n")?;
     let listed = list_bytes(part(s, body, stop), out);
-    say_listed(listed, out);
-    stop
+    say_listed(rt, listed, out)?;
+    Ok(stop)
 }
 
-fn all_cases(s: &[u8], out: &mut [u8]) {
+fn all_cases(rt: &HostRuntime, s: &[u8], out: &mut [u8]) -> io::Result<()> {
     let end = s.len();
     if 0x1000_0000 <= end {
-        return;
+        return Ok(());
     }
     let mut at: usize = 0;
     while at < end {
-        at = one_case(s, at, out);
+        at = one_case(rt, s, at, out)?;
     }
+    Ok(())
 }
 
-fn main() {
+// Reads until buf is full or the input ends, and answers how many octets stand at its front.
+fn read_full(rt: &HostRuntime, buf: &mut [u8]) -> io::Result<usize>
+    ensures { IfOk result (λ n. n ≤ length buf.new) }
+{
+    let mut input = rt.stdin();
+    let mut done: usize = 0;
+    while done < buf.len() {
+        let n = input.read(&mut buf[done..])?;
+        if n == 0 {
+            break;
+        }
+        done += n;
+    }
+    Ok(done)
+}
+
+fn main(rt: HostRuntime) -> io::Result<()> {
     let mut input = [0u8; 262144];
     let mut text = [0u8; 491576];
-    let n = io::read_full(0, &mut input);
-    all_cases(&input[..n], &mut text);
+    let n = read_full(&rt, &mut input)?;
+    all_cases(&rt, &input[..n], &mut text)
 }

@@ -1,6 +1,25 @@
 // The cases' input: words of eight octets, highest first, with names and buffers between them. What lies past its end
 // reads as 0.
-ghost use Rattle.std.specs.Prelude.{◌<◌};
+ghost use Rattle.std.specs.Prelude.{◌<◌, ◌≤◌, length, IfOk};
+
+use std::io;
+use std::io::Read;
+
+// Reads until buf is full or the input ends, and answers how many octets stand at its front.
+pub(crate) fn read_full(rt: &HostRuntime, buf: &mut [u8]) -> io::Result<usize>
+    ensures { IfOk result (λ n. n ≤ length buf.new) }
+{
+    let mut input = rt.stdin();
+    let mut done: usize = 0;
+    while done < buf.len() {
+        let n = input.read(&mut buf[done..])?;
+        if n == 0 {
+            break;
+        }
+        done += n;
+    }
+    Ok(done)
+}
 
 pub(crate) fn wide(x: u8) -> usize
     ensures { result < 256 }

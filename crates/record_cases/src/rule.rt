@@ -8,6 +8,7 @@ use octet_fields::Asked;
 use records::Record;
 use ruling::Ruling;
 use ruling::request::{Request, Token};
+use std::io;
 
 // There or not, type bits, time and challenge.
 fn token_at(s: &[u8], at: usize) -> Token
@@ -43,15 +44,15 @@ fn request_at(s: &[u8], at: usize) -> Request
 }
 
 // A mark and how many bits it has.
-fn say_mark(name: &[u8], mark: u16, bits: u32) {
-    say(name);
-    say_number(mark as u64);
-    say(b" of ");
-    say_number(bits as u64);
+fn say_mark(rt: &HostRuntime, name: &[u8], mark: u16, bits: u32) -> io::Result<()> {
+    say(rt, name)?;
+    say_number(rt, mark as u64)?;
+    say(rt, b" of ")?;
+    say_number(rt, bits as u64)
 }
 
 // Says how the use is ruled whose request stands at at.
-pub(crate) fn say_use(r: Record, s: &[u8], at: usize)
+pub(crate) fn say_use(rt: &HostRuntime, r: Record, s: &[u8], at: usize) -> io::Result<()>
     requires { at < 0x1000_0000 }
 {
     match ruling::rule(r, request_at(s, at)) {
@@ -61,49 +62,55 @@ pub(crate) fn say_use(r: Record, s: &[u8], at: usize)
             software,
             software_bits,
         } => {
-            say_mark(b"permit hardware ", hardware, hardware_bits);
-            say_mark(b" software ", software, software_bits);
-            say(b"\n");
+            say_mark(rt, b"permit hardware ", hardware, hardware_bits)?;
+            say_mark(rt, b" software ", software, software_bits)?;
+            say(rt, b"\n")
         }
         Ruling::Refused(number, place) => {
-            say_refused(number, place);
-            say(b"\n");
+            say_refused(rt, number, place)?;
+            say(rt, b"\n")
         }
     }
 }
 
 // Says how the enrolment is ruled whose expected challenge stands at at, after its length.
-pub(crate) fn say_enrolment(r: Record, buffer: &[u8], s: &[u8], at: usize)
+pub(crate) fn say_enrolment(
+    rt: &HostRuntime,
+    r: Record,
+    buffer: &[u8],
+    s: &[u8],
+    at: usize,
+) -> io::Result<()>
     requires { at < 0x1000_0000 }
 {
     let expected = part(s, at + 8, at + 8 + small(s, at));
     match enrolment::enrol(r, buffer, expected) {
-        Enrolment::Enrolled => say(b"yes\n"),
+        Enrolment::Enrolled => say(rt, b"yes\n"),
         Enrolment::Refused(number, place) => {
-            say_refused(number, place);
-            say(b"\n");
+            say_refused(rt, number, place)?;
+            say(rt, b"\n")
         }
     }
 }
 
 // Says what asking for an octet field answers: at at stand the list, the number and the buffer's length.
-pub(crate) fn say_octets(r: Record, s: &[u8], at: usize)
+pub(crate) fn say_octets(rt: &HostRuntime, r: Record, s: &[u8], at: usize) -> io::Result<()>
     requires { at < 0x1000_0000 }
 {
     let number = word(s, at + 8) as usize;
     let len = word(s, at + 16) as usize;
     match octet_fields::ask_octets(r, flag(s, at), number, len) {
         Asked::At(start, size) => {
-            say(b"part ");
-            say_number(start as u64);
-            say(b" ");
-            say_number(size as u64);
-            say(b"\n");
+            say(rt, b"part ")?;
+            say_number(rt, start as u64)?;
+            say(rt, b" ")?;
+            say_number(rt, size as u64)?;
+            say(rt, b"\n")
         }
-        Asked::Absent => say(b"absent\n"),
+        Asked::Absent => say(rt, b"absent\n"),
         Asked::Refused(number, place) => {
-            say_refused(number, place);
-            say(b"\n");
+            say_refused(rt, number, place)?;
+            say(rt, b"\n")
         }
     }
 }

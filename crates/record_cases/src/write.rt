@@ -4,6 +4,7 @@ use crate::say::{say, say_hex, say_number, say_refused};
 use listing::Listed;
 use reader::Outcome;
 use records::Record;
+use std::io;
 use writer::Written;
 
 // What stands in the output before a write.
@@ -20,16 +21,15 @@ fn fill(out: &mut [u8]) {
 }
 
 // Says whether each byte of out from a place on is as it was.
-fn say_kept(out: &[u8], from: usize) {
+fn say_kept(rt: &HostRuntime, out: &[u8], from: usize) -> io::Result<()> {
     let mut i = from;
     while i < out.len() {
         if out[i] != filler(i) {
-            say(b"changed\n");
-            return;
+            return say(rt, b"changed\n");
         }
         i += 1;
     }
-    say(b"kept\n");
+    say(rt, b"kept\n")
 }
 
 fn same(a: &[u8], b: &[u8]) -> bool {
@@ -55,21 +55,28 @@ fn listed<'a>(answer: Listed, out: &'a [u8]) -> &'a [u8] {
 }
 
 // Lists what is read back from an encoding, and says whether the record that was written lists the same.
-fn say_reading(r: Record, buffer: &[u8], encoding: &[u8], a: &mut [u8], b: &mut [u8]) {
+fn say_reading(
+    rt: &HostRuntime,
+    r: Record,
+    buffer: &[u8],
+    encoding: &[u8],
+    a: &mut [u8],
+    b: &mut [u8],
+) -> io::Result<()> {
     let reading = reader::read(encoding);
     let outcome = reading.outcome;
     match outcome {
         Outcome::Accepted(n) => {
             let read = listing::list_record(reading.said, n, encoding, a);
             let written = listing::list_record(r, n, buffer, b);
-            say(listed(read, a));
+            say(rt, listed(read, a))?;
             if same(listed(read, a), listed(written, b)) {
-                say(b"as written\n");
+                say(rt, b"as written\n")
             } else {
-                say(b"other than written\n");
+                say(rt, b"other than written\n")
             }
         }
-        Outcome::Refused(_, _) => say(b"not read\n"),
+        Outcome::Refused(_, _) => say(rt, b"not read\n"),
     }
 }
 
@@ -83,34 +90,43 @@ fn write_into(r: Record, buffer: &[u8], out: &mut [u8], room: usize) -> Written 
 }
 
 // Says what writing the record answered and left.
-fn say_answer(answer: Written, r: Record, buffer: &[u8], out: &[u8], a: &mut [u8], b: &mut [u8]) {
+fn say_answer(
+    rt: &HostRuntime,
+    answer: Written,
+    r: Record,
+    buffer: &[u8],
+    out: &[u8],
+    a: &mut [u8],
+    b: &mut [u8],
+) -> io::Result<()> {
     match answer {
         Written::Wrote(n) => {
-            say(b"wrote ");
-            say_number(n as u64);
-            say(b" ");
-            say_hex(part(out, 0, n));
-            say(b" rest ");
-            say_kept(out, n);
-            say_reading(r, buffer, part(out, 0, n), a, b);
+            say(rt, b"wrote ")?;
+            say_number(rt, n as u64)?;
+            say(rt, b" ")?;
+            say_hex(rt, part(out, 0, n))?;
+            say(rt, b" rest ")?;
+            say_kept(rt, out, n)?;
+            say_reading(rt, r, buffer, part(out, 0, n), a, b)
         }
         Written::Refused(number, place) => {
-            say_refused(number, place);
-            say(b" output ");
-            say_kept(out, 0);
+            say_refused(rt, number, place)?;
+            say(rt, b" output ")?;
+            say_kept(rt, out, 0)
         }
     }
 }
 
 // Says what writing the record into room bytes answers and leaves, and what is read back.
 pub(crate) fn say_write(
+    rt: &HostRuntime,
     r: Record,
     buffer: &[u8],
     room: usize,
     out: &mut [u8],
     a: &mut [u8],
     b: &mut [u8],
-) {
+) -> io::Result<()> {
     let answer = write_into(r, buffer, out, room);
-    say_answer(answer, r, buffer, out, a, b);
+    say_answer(rt, answer, r, buffer, out, a, b)
 }
