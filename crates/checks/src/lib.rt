@@ -2,6 +2,7 @@
 // that ends in `refused` or `missing` answers true where it refuses. Flags are joined by `&` and `|`, as there is nothing
 // to save by not asking.
 #![tactic(auto)]
+
 ghost use Rattle.std.specs.Prelude.{◌≡◌, ◌+◌, ◌*◌, ◌≤◌, leb};
 ghost use Rattle.answer.specs.Answer.{pick};
 ghost use Rattle.records.specs.Content.{members_of};

@@ -1,6 +1,7 @@
 // The leaves of a writer: an element's header and an INTEGER, put at a place of a lent output. Each refuses what a
 // reader would refuse, or a short output, and then changes not one byte; else it writes just its octets.
 #![tactic(auto)]
+
 ghost use Rattle.std.specs.Prelude.{◌≡◌, ℕ, ◌+◌, ◌<◌, ◌≤◌, leb, length};
 ghost use Rattle.codec.specs.Octets.{splice, left};
 ghost use Rattle.codec.specs.Shortest.{low_octets, bits, integer_size, length_octets};

@@ -1,6 +1,7 @@
 // The enrolment ruling (document 01, "The enrolment ruling"): whether a key may be taken on, by its challenge, its security
 // levels and what the hardware says of the device.
 #![tactic(auto)]
+
 ghost use Rattle.std.specs.Prelude.{◌≡◌};
 ghost use Rattle.schema.specs.Content.{place_at};
 ghost use Rattle.records.specs.Content.{fields_of};

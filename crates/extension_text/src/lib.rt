@@ -1,5 +1,6 @@
 // The listing of an extension's bytes as text (document 01, "One extension, whole"): what is read is listed.
 #![tactic(auto)]
+
 ghost use Rattle.std.specs.Prelude.{◌≡◌};
 ghost use Rattle.listing.specs.Room.{of_listed};
 ghost use Rattle.extension_text.specs.Bytes.{extension_listed, extension_left};

@@ -1,5 +1,6 @@
 // A record as the words of a caller's image, and an image's words as a record (include/sculldrip.h has the layout).
 #![tactic(auto)]
+
 mod fit;
 mod from;
 mod put;

@@ -4,6 +4,7 @@
 // contract, PutsText or one that specs/Lines.antt names, also bounds the text's length, so that list_record knows without
 // counting when all of it fits.
 #![tactic(auto)]
+
 ghost use Rattle.std.specs.Prelude.{◌≡◌, [], ◌∷◌, ◌+◌, ◌*◌, ◌<◌, ◌≤◌, length, drop};
 ghost use Rattle.schema.specs.Table.{row_count};
 ghost use Rattle.records.specs.Content.{part_of, members_of};

@@ -3,15 +3,12 @@
 use mathlib.Core.Path.{◌≡◌, refl, sym, ap, ◌∙◌}
 use mathlib.Core.Bool.{Bool, true, false, not}
 use mathlib.Core.Option.{Option, none, some}
-use mathlib.Core.Logic.{inl, inr}
-use mathlib.Core.List.{List, [], ◌∷◌}
+use mathlib.Core.List.{List, []}
 use Prim.Native.Nat.{ℕ, ◌+◌, ◌-◌, ◌≤◌}
 use native.Mathlib.Omega.{arith}
 use lib.Dec.{leb→le}
 use lib.ListN.{length, get_or, take, drop, get_or-eq_default}
 use borrow.Author.Tests.{not-true, not-false}
-use denote.Enum.Declared.{tag_of}
-use types.Run.{OneOf}
 use Rattle.answer.specs.Answer.{Answer, got, refused, guard, pick}
 use Rattle.answer.specs.Refusal.{ill_shaped}
 use Rattle.answer.proofs.Answer.{got_inj, guard_case}
@@ -20,7 +17,6 @@ use Rattle.schema.specs.Content.{ValueWith, num, nul, oct, nums, trust, Place, p
 use Rattle.schema.specs.Rows.{of_kind, of_row}
 use Rattle.schema.specs.declared.Row.{Row}
 use Rattle.schema.specs.declared.Kind as code
-use Rattle.schema.specs.contracts.Kind as kinds
 use Rattle.records.specs.declared.FieldList.{FieldList}
 use Rattle.records.specs.declared.Record.{Record}
 use Rattle.octet_fields.specs.declared.Asked.{Asked}
@@ -29,7 +25,6 @@ use Rattle.records.specs.Fields.{field_value}
 use Rattle.records.specs.Parts.{inside}
 use Rattle.octet_fields.specs.AskedRow.{asked_in, asked_at}
 use Rattle.octet_fields.specs.Asked.{list_of, asked_of, asked_octets, part_asked, octet_field_of, start_asked, moved_on, of_asked}
-use Rattle.octet_fields.specs.contracts.Asked as answers
 
 -- ---- the list that is asked
 

@@ -1,5 +1,6 @@
 // Octet fields of a record, by list and number, as parts of the caller's extension.
 #![tactic(auto)]
+
 ghost use Rattle.std.specs.Prelude.{◌≡◌, true, length};
 ghost use Rattle.schema.specs.Table.{octets, rows, index_of};
 ghost use Rattle.records.specs.Content.{octets_at, part_of};

@@ -17,7 +17,6 @@ use Rattle.answer.proofs.Logic.{and_both, by_le}
 use Rattle.schema.specs.Table as table
 use Rattle.schema.specs.Table.{row_at, row_count}
 use Rattle.schema.specs.Decode.{read_places}
-use Rattle.schema.specs.declared.Kind.{Kind}
 use Rattle.schema.proofs.Accepted.{read-sound}
 use Rattle.records.specs.Content.{octets_at, content_of, places_of}
 use Rattle.records.specs.Equal.{present_at}

@@ -11,7 +11,7 @@ use borrow.Author.Tests.{le-leb, lt-leb, eq-eqb, ne_eqb}
 use Rattle.answer.specs.Answer.{Answer, got, refused, guard, bind}
 use Rattle.codec.specs.Octets.{taken}
 use Rattle.codec.specs.Header.{identifier}
-use Rattle.schema.specs.Table.{Row, row, null, rows, row_at, index_of, find, held_in, row_count}
+use Rattle.schema.specs.Table.{row, null, rows, row_at, index_of, find, held_in, row_count}
 use Rattle.schema.specs.Content.{ValueWith, field, Place}
 use Rattle.schema.specs.Decode.{read_value, row_content, field_content, read_field, as_place}
 use Rattle.schema.specs.Rows.{of_row}

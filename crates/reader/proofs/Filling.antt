@@ -9,8 +9,6 @@ use lib.Dec.{leb}
 use lib.ListN.{length, set}
 use lib.Seq.{slice}
 use borrow.Author.Tests.{ne_eqb}
-use denote.Enum.Declared.{tag_of}
-use types.Run.{OneOf}
 use Rattle.records.proofs.Placed.{by_set, by_root}
 use Rattle.answer.specs.Answer.{Answer, got, refused, bind, pick}
 use Rattle.answer.proofs.Logic.{by_le}
@@ -23,7 +21,6 @@ use Rattle.schema.specs.Content.{ValueWith, field, after_field, Place, place_at}
 use Rattle.schema.specs.Decode.{read_set, read_root, read_value, read_field, read_list, as_place}
 use Rattle.schema.specs.declared.Row as code
 use Rattle.schema.specs.declared.Kind.{Kind as codeKind}
-use Rattle.schema.specs.contracts.Kind as kinds
 use Rattle.schema.proofs.Table.{above}
 use Rattle.records.specs.Content.{members_of, field_at, fields_of}
 use Rattle.records.specs.Clear.{uses_value, uses_size}

@@ -1,5 +1,6 @@
 // The schema pass: what an extension says, read into a record (document 01, "KeyDescription", refusals 8 to 14).
 #![tactic(auto)]
+
 mod eight;
 mod fields;
 

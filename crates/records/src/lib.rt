@@ -1,6 +1,7 @@
 // A record: what an extension says, as plain values and flags, with each octet part as a place in a buffer that the
 // caller keeps. A caller may set any of it to anything; nothing here relies on its being well-shaped.
 #![tactic(auto)]
+
 use schema::ROWS;
 
 // Octets of the buffer, from start on. Document 01's "octet part".

@@ -1,6 +1,7 @@
 // The reader and the writer, one after the other: write(read(b)) is b, and read(write(r)) equals r. Their contracts follow
 // from those of `read` and `write` and the theorems of one_record alone.
 #![tactic(auto)]
+
 ghost use Rattle.std.specs.Prelude.{◌≡◌};
 ghost use Rattle.codec.specs.Octets.{left};
 ghost use Rattle.writer.specs.Written.{of_written, written, left_by};

@@ -1,5 +1,6 @@
 // The use ruling (document 01, "The use ruling"): whether a key may be put to a use, by the rules of both its lists.
 #![tactic(auto)]
+
 mod marks;
 mod order;
 pub mod request;

@@ -1,6 +1,7 @@
 // The schema's table (document 01, "KeyDescription"): 42 rows in ascending number, each a field's number, its kind and
 // the first and last version that hold it. A row is named by its place in the table; 42 stands for none.
 #![tactic(auto)]
+
 pub mod version;
 
 ghost use Rattle.std.specs.Prelude.{◌≡◌};

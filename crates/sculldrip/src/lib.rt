@@ -1,6 +1,7 @@
 // The C interface (include/sculldrip.h): every function takes anything and answers one number, and a refused call changes
 // nothing that was lent. specs/Calls.antt says what each answers and leaves.
 #![tactic(auto)]
+
 mod packed;
 
 ghost use Rattle.std.specs.Prelude.{◌≡◌, ◌≤◌, length};

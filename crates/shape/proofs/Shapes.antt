@@ -1,23 +1,19 @@
 -- Well-shaped records: each answer of the code is the same test of `specs/Shape`. Assumes nothing.
 use mathlib.Core.Path.{◌≡◌, refl, sym, ◌∙◌}
 use mathlib.Core.Bool.{Bool, true, false, not, ◌&&◌, true≢false}
-use mathlib.Core.Logic.{inl, inr}
-use mathlib.Core.List.{List, [], ◌∷◌}
+use mathlib.Core.List.{List}
 use Prim.Native.Nat.{ℕ, zero, suc, ◌+◌, ◌<◌, ◌≤◌, ◌^◌}
 use native.Mathlib.Omega.{arith}
 use native.Mathlib.Numerals.{add-one}
 use lib.Dec.{leb, ltb, leb-zero}
 use lib.ListN.{get_or}
 use borrow.Author.Tests.{le-leb, lt-leb, lt-ltb, le-ltb, ne_eqb, leb-true, not-true, not-false}
-use denote.Enum.Declared.{tag_of}
-use types.Run.{OneOf}
 use Rattle.answer.specs.Answer.{pick}
 use Rattle.answer.proofs.Logic.{by_le}
 use Rattle.schema.specs.Table.{Kind, set, number32, number64, null, octets, root, rows, row_at, known_version, held_in, level_top, hashed, top32, top64, row_count}
 use Rattle.schema.specs.Rows.{of_kind, of_row}
 use Rattle.schema.specs.declared.Row.{Row}
 use Rattle.schema.specs.declared.Kind as code
-use Rattle.schema.specs.contracts.Kind as kinds
 use Rattle.records.specs.declared.NumberSet.{NumberSet}
 use Rattle.records.specs.declared.RootOfTrust.{RootOfTrust}
 use Rattle.records.specs.declared.FieldList.{FieldList}

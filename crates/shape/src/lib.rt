@@ -1,6 +1,7 @@
 // Whether a record is well-shaped (document 01, "KeyDescription"): what its numbers, sets and flags may be. Octet parts
 // are not looked at.
 #![tactic(auto)]
+
 pub mod parts;
 
 ghost use Rattle.std.specs.Prelude.{◌≡◌, true, ◌&&◌, leb};

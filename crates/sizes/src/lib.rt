@@ -1,6 +1,7 @@
 // How many octets each piece of an encoding has, counted up to 8,193. Nothing here asks that a record be well-shaped:
 // sets are cut at their 16 slots and parts at the end of the buffer, as a record's content is.
 #![tactic(auto)]
+
 ghost use Rattle.std.specs.Prelude.{◌≡◌, ◌+◌};
 ghost use Rattle.codec.specs.Integer.{integer_element};
 ghost use Rattle.codec.specs.Element.{chain_octets};

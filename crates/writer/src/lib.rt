@@ -1,5 +1,6 @@
 // A record as its one encoding (document 01, "Numbers of the reader and writer"), at the front of a lent output.
 #![tactic(auto)]
+
 mod put;
 
 ghost use Rattle.std.specs.Prelude.{◌≡◌};

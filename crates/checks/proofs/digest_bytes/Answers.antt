@@ -2,7 +2,6 @@
 use Rattle.answer.specs.Answer.{pick}
 use Rattle.checks.specs.Checks.{digest_bytes}
 use Rattle.checks.proofs.Tags.{tests}
-use borrow.Author.Rules.{rules}
 use Rattle.checks.proofs.digest_bytes.Goals as goal
 
 pub returns-then-d-eq1-clause-is : goal.returns-then-d-eq1-clause-is

@@ -1,6 +1,5 @@
 -- `checks::digest_refused` meets its contract: its parts are those of the definition. Assumes nothing.
 use Rattle.checks.specs.Checks.{digest_refused}
-use borrow.Author.Rules.{rules}
 use Rattle.checks.proofs.digest_refused.Goals as goal
 
 pub returns : goal.returns

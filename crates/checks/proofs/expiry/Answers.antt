@@ -1,6 +1,5 @@
 -- `checks::expiry` meets its contract, by the purpose. Assumes nothing.
 use Rattle.checks.proofs.Checking.{expiry-origination, expiry-usage, tag_origination, tag_usage}
-use borrow.Author.Rules.{rules}
 use Rattle.checks.proofs.expiry.Goals as goal
 
 pub returns-then-signs-clause-is : goal.returns-then-signs-clause-is

@@ -1,6 +1,5 @@
 -- `checks::fresh_refused` meets its contract: the tests of `fresh_refused` in turn. Assumes nothing.
 use Rattle.checks.proofs.Checking.{fresh_unasked, fresh_timed, fresh_bound}
-use borrow.Author.Rules.{rules}
 use Rattle.checks.proofs.fresh_refused.Goals as goal
 
 pub returns-then-not-sa-ha : goal.returns-then-not-sa-ha

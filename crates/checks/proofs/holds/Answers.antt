@@ -1,9 +1,6 @@
 -- `checks::holds` meets its contract. The invariant: n is a member exactly if it is one from slot i on.
 -- Assumes nothing.
-use mathlib.Core.Path.{◌≡◌, refl}
-use Prim.Native.Nat.{◌≤◌, ◌-◌}
-use lib.ListN.{length, take, drop}
-use Rattle.checks.specs.Tags.{member}
+use mathlib.Core.Path.{refl}
 use Rattle.checks.proofs.Tags.{counted_out, slots_out, member_found, member_passed}
 use borrow.Author.Rules.{rules}
 use Rattle.checks.proofs.holds.Goals as goal

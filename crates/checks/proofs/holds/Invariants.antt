@@ -1,11 +1,9 @@
 -- `checks::holds` meets its contract. The invariant: n is a member exactly if it is one from slot i on.
 -- Assumes nothing.
-use mathlib.Core.Path.{◌≡◌, refl}
+use mathlib.Core.Path.{◌≡◌}
 use Prim.Native.Nat.{◌≤◌, ◌-◌}
 use lib.ListN.{length, take, drop}
 use Rattle.checks.specs.Tags.{member}
-use Rattle.checks.proofs.Tags.{counted_out, slots_out, member_found, member_passed}
-use borrow.Author.Rules.{rules}
 use Rattle.checks.proofs.holds.Given as goal
 
 abbrev pub invariant-loop-i : goal.invariant-loop-i

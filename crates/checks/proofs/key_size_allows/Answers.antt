@@ -1,6 +1,5 @@
 -- `checks::key_size_allows` meets its contract: one bit more than 2D+1 octets are 2D+2 octets. Assumes nothing.
 use Rattle.checks.proofs.Checking.{size_enough}
-use borrow.Author.Rules.{rules}
 use Rattle.checks.proofs.key_size_allows.Goals as goal
 
 pub returns : goal.returns

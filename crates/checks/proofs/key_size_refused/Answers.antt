@@ -1,7 +1,6 @@
 -- `checks::key_size_refused` meets its contract: its parts are those of the definition. Assumes nothing.
 use Rattle.checks.specs.Checks.{key_size_refused}
 use Rattle.checks.proofs.Tags.{there-given}
-use borrow.Author.Rules.{rules}
 use Rattle.checks.proofs.key_size_refused.Goals as goal
 
 pub returns : goal.returns

@@ -1,6 +1,5 @@
 -- `checks::padding_refused` meets its contract: its parts are those of the definition. Assumes nothing.
 use Rattle.checks.specs.Checks.{padding_refused}
-use borrow.Author.Rules.{rules}
 use Rattle.checks.proofs.padding_refused.Goals as goal
 
 pub returns : goal.returns

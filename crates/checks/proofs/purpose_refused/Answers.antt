@@ -1,6 +1,5 @@
 -- `checks::purpose_refused` meets its contract: what the sets say, negated. Assumes nothing.
 use Rattle.checks.specs.Checks.{purpose_refused}
-use borrow.Author.Rules.{rules}
 use Rattle.checks.proofs.purpose_refused.Goals as goal
 
 pub returns : goal.returns

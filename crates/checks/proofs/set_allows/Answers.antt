@@ -1,6 +1,5 @@
 -- `checks::set_allows` meets its contract, by the tag's flag. Assumes nothing.
 use Rattle.checks.proofs.Tags.{absent-allows, there-allows}
-use borrow.Author.Rules.{rules}
 use Rattle.checks.proofs.set_allows.Goals as goal
 
 pub returns-then-not-t : goal.returns-then-not-t

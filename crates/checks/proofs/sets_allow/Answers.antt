@@ -1,6 +1,5 @@
 -- `checks::sets_allow` meets its contract: its parts are those of `set_allows`. Assumes nothing.
 use Rattle.checks.proofs.Tags.{there-given}
-use borrow.Author.Rules.{rules}
 use Rattle.checks.proofs.sets_allow.Goals as goal
 
 pub returns : goal.returns

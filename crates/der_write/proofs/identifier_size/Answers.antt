@@ -1,6 +1,5 @@
 -- `identifier_size` meets its contract in each of the three forms. Assumes nothing.
 use Rattle.der_write.proofs.Sizes.{identifier-size_one, identifier-size_two, identifier-size_three}
-use borrow.Author.Rules.{rules}
 use Rattle.der_write.proofs.identifier_size.Goals as goal
 
 pub returns-then-number-lt31-clause-is : goal.returns-then-number-lt31-clause-is

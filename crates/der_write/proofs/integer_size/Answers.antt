@@ -1,6 +1,5 @@
 -- `integer_size` meets its contract, from the significant bits. Assumes nothing.
 use Rattle.der_write.proofs.Sizes.{integer_size_lem}
-use borrow.Author.Rules.{rules}
 use Rattle.der_write.proofs.integer_size.Goals as goal
 
 pub returns-clause-is : goal.returns-clause-is

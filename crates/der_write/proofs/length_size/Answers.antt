@@ -1,6 +1,5 @@
 -- `length_size` meets its contract: one octet below 128, else those of the significant bits and one more. Assumes nothing.
 use Rattle.der_write.proofs.Sizes.{length-size-short, length-size-long}
-use borrow.Author.Rules.{rules}
 use Rattle.der_write.proofs.length_size.Goals as goal
 
 pub returns-then-n-lt128-clause-is : goal.returns-then-n-lt128-clause-is

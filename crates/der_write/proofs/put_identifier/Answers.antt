@@ -1,7 +1,6 @@
 -- `put_identifier` meets its contract: one law of `Writes` for each of the three forms. Assumes nothing.
 use lib.ListN.{length-set}
 use Rattle.der_write.proofs.Writes.{fits_high7, fits_low7, room_one, room_two, room_three, room_second, room-first, put_one, put_two, put_three}
-use borrow.Author.Rules.{rules}
 use Rattle.der_write.proofs.put_identifier.Goals as goal
 
 pub bounds-out-at : goal.bounds-out-at

@@ -4,7 +4,6 @@ use native.Mathlib.Omega.{arith}
 use Prim.Native.Nat.{◌+◌}
 use lib.ListN.{length}
 use Rattle.der_write.proofs.Writes.{kept, wrote, has_space, integer_no, integer_yes}
-use borrow.Author.Rules.{rules}
 use Rattle.der_write.proofs.put_integer.Goals as goal
 
 pub write_integer-requires : goal.write_integer-requires

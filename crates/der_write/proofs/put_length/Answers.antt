@@ -1,8 +1,5 @@
 -- `put_length` meets its contract: one store, or the count of octets and then those. Assumes nothing.
-use mathlib.Core.Path.{◌∙◌}
-use lib.ListN.{length-set}
 use Rattle.der_write.proofs.Writes.{short-first, put-short, length-first, length_rest, put-long}
-use borrow.Author.Rules.{rules}
 use Rattle.der_write.proofs.put_length.Goals as goal
 
 pub bounds-out-at : goal.bounds-out-at

@@ -1,11 +1,9 @@
 -- `der_write::put_octets` meets its contract. The invariant: k octets are still to come, y is x without those that are
 -- written, and the output is the old one with those spliced in. Assumes nothing.
-use Prim.Native.Nat.{◌+◌, ◌-◌, ◌*◌, ◌/◌, ◌^◌, ◌<◌, ◌≤◌}
-use mathlib.Core.Path.{◌≡◌, refl}
-use lib.ListN.{length, length-set}
+use Prim.Native.Nat.{◌<◌}
+use mathlib.Core.Path.{refl}
+use lib.ListN.{length-set}
 use borrow.Author.Rules.{rules}
-use Rattle.codec.specs.Octets.{splice}
-use Rattle.codec.specs.Shortest.{low_octets}
 use Rattle.der_write.proofs.Writes.{octets-start, octets_shift, octets_more, octets_end}
 use Rattle.der_write.proofs.put_octets.Goals as goal
 

@@ -1,9 +1,7 @@
 -- `write_integer` meets its contract: stores, or two of them and the octets of the number, are one splice. Assumes nothing.
-use mathlib.Core.Path.{◌∙◌}
 use native.Mathlib.Omega.{arith}
 use lib.ListN.{length-set}
 use Rattle.der_write.proofs.Writes.{one_fits, integer_one, two_fits, integer_two, integer_put}
-use borrow.Author.Rules.{rules}
 use Rattle.der_write.proofs.write_integer.Goals as goal
 
 pub bounds-out-at-2 : goal.bounds-out-at-2

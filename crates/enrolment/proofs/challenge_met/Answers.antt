@@ -1,6 +1,5 @@
 -- `challenge_met` meets its contract: a length of 1 to 128, and the same octets. Assumes nothing.
 use Rattle.enrolment.proofs.Answers.{challenge-none, challenge-long, challenge-same}
-use borrow.Author.Rules.{rules}
 use Rattle.enrolment.proofs.challenge_met.Goals as goal
 
 pub returns-then-n-lt1 : goal.returns-then-n-lt1

@@ -1,6 +1,5 @@
 -- `enrol` meets its contract: 20, and then what is judged. Assumes nothing.
 use Rattle.enrolment.proofs.Answers.{not_shaped, part-outside, is-judged}
-use borrow.Author.Rules.{rules}
 use Rattle.enrolment.proofs.enrol.Goals as goal
 
 pub returns-then-not-well_shaped : goal.returns-then-not-well_shaped

@@ -1,6 +1,5 @@
 -- `generated` meets its contract: origin is there, and 0. Assumes nothing.
 use Rattle.enrolment.proofs.Answers.{not_generated, origin_read}
-use borrow.Author.Rules.{rules}
 use Rattle.enrolment.proofs.generated.Goals as goal
 
 pub returns-then-not-hardware : goal.returns-then-not-hardware

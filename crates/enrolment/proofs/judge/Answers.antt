@@ -1,6 +1,5 @@
 -- `judge` meets its contract: one law for each answer. Assumes nothing.
 use Rattle.enrolment.proofs.Answers.{not_met, software-level, no_root, unlocked, not_verified, other_origin, taken_on}
-use borrow.Author.Rules.{rules}
 use Rattle.enrolment.proofs.judge.Goals as goal
 
 pub returns-then-not-met : goal.returns-then-not-met

@@ -1,6 +1,5 @@
 -- `same_octets` meets its contract: the octets up to here are the same. Assumes nothing.
-use Prim.Native.Nat.{◌-◌, ◌≤◌}
-use Rattle.enrolment.proofs.Answers.{SameUpTo, same-short, same_differs, same_none, same_more, same_all}
+use Rattle.enrolment.proofs.Answers.{same-short, same_differs, same_none, same_more, same_all}
 use borrow.Author.Rules.{rules}
 use Rattle.enrolment.proofs.same_octets.Goals as goal
 

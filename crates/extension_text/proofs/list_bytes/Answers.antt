@@ -1,6 +1,5 @@
 -- What was read is listed: the answers of the reader and of the listing, put together.
 use Rattle.extension_text.proofs.Said.{said-is, accepted-lists, accepted-leaves, refused-lists, refused-leaves}
-use borrow.Author.Rules.{rules}
 use Rattle.extension_text.proofs.list_bytes.Goals as goal
 
 pub returns-in-Accepted-clause-answer : goal.returns-in-Accepted-clause-answer

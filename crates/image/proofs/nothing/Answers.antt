@@ -1,6 +1,5 @@
 -- `nothing` meets its contract: the record of zeros. Assumes nothing.
 use mathlib.Core.Path.{refl}
-use borrow.Author.Rules.{rules}
 use Rattle.image.proofs.nothing.Goals as goal
 
 pub returns : goal.returns

@@ -1,6 +1,5 @@
 -- `put_image` meets its contract: all the words, or none where there is no room. Assumes nothing.
 use Rattle.image.proofs.Imaging.{put-long, put-short}
-use borrow.Author.Rules.{rules}
 use Rattle.image.proofs.put_image.Goals as goal
 
 pub returns-then-out-ge410-clause-is : goal.returns-then-out-ge410-clause-is

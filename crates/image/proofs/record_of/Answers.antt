@@ -1,6 +1,5 @@
 -- `record_of` meets its contract: the tests in their order, then the record of the words. Assumes nothing.
 use Rattle.image.proofs.Imaging.{image-short, image_unfit, image-got}
-use borrow.Author.Rules.{rules}
 use mathlib.Core.Path.{ap}
 use mathlib.Core.Bool.{not}
 use Rattle.image.proofs.record_of.Goals as goal

@@ -1,5 +1,4 @@
 -- `hex_digit` meets its contract: the test is that of `hex_digit`. Assumes nothing.
-use borrow.Author.Rules.{rules}
 use Rattle.listing.proofs.Texts.{hex_digit-low, hex_digit_high}
 use Rattle.listing.proofs.hex_digit.Goals as goal
 

@@ -2,7 +2,6 @@
 -- there; a shorter one is not touched. Assumes nothing.
 use native.Mathlib.Omega.{arith}
 use lib.ListN.{length}
-use borrow.Author.Rules.{rules}
 use Rattle.records.specs.Content.{content_of}
 use Rattle.listing.proofs.Writes.{short, wrote}
 use Rattle.listing.specs.Text.{content_text}

@@ -1,5 +1,4 @@
 -- `list_refusal` meets its contract: 64 octets hold the line of any refusal. Assumes nothing.
-use borrow.Author.Rules.{rules}
 use Rattle.listing.proofs.Writes.{short, wrote, refusal_put}
 use Rattle.listing.specs.Text.{refusal_text}
 use Rattle.listing.specs.Room.{refusal_needed}

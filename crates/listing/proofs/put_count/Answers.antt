@@ -1,5 +1,4 @@
 -- `put_count` meets its contract: the named number and the line's end. Assumes nothing.
-use borrow.Author.Rules.{rules}
 use Rattle.listing.proofs.Writes.{count-put}
 use Rattle.listing.proofs.put_count.Goals as goal
 

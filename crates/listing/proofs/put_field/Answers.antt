@@ -1,5 +1,4 @@
 -- `put_field` meets its contract: its four pieces, with the number and the kind that the table's row has. Assumes nothing.
-use borrow.Author.Rules.{rules}
 use Rattle.listing.proofs.Writes.{field_put}
 use Rattle.listing.proofs.put_field.Goals as goal
 

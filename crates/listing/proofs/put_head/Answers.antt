@@ -1,5 +1,4 @@
 -- `put_head` meets its contract: its four lines are put one after the other. Assumes nothing.
-use borrow.Author.Rules.{rules}
 use Rattle.listing.proofs.Writes.{head-put}
 use Rattle.listing.proofs.put_head.Goals as goal
 

@@ -1,12 +1,8 @@
 -- `put_hex` meets its contract. The invariant: the digits of the first i octets are put. Assumes nothing.
 use native.Mathlib.Omega.{arith}
-use mathlib.Core.Path.{◌≡◌, refl}
-use Prim.Native.Nat.{◌-◌, ◌*◌, ◌≤◌}
-use lib.ListN.{length, take}
+use mathlib.Core.Path.{refl}
 use borrow.Author.Rules.{rules}
 use Rattle.listing.proofs.Writes.{hex_start, hex_more, hex_end}
-use Rattle.listing.specs.Text.{hex_text}
-use Rattle.listing.specs.Put.{PutsText}
 use Rattle.listing.proofs.put_hex.Goals as goal
 
 pub loop-i-init : goal.loop-i-init

@@ -1,10 +1,7 @@
 -- `put_hex` meets its contract. The invariant: the digits of the first i octets are put. Assumes nothing.
-use native.Mathlib.Omega.{arith}
-use mathlib.Core.Path.{◌≡◌, refl}
+use mathlib.Core.Path.{◌≡◌}
 use Prim.Native.Nat.{◌-◌, ◌*◌, ◌≤◌}
 use lib.ListN.{length, take}
-use borrow.Author.Rules.{rules}
-use Rattle.listing.proofs.Writes.{hex_start, hex_more, hex_end}
 use Rattle.listing.specs.Text.{hex_text}
 use Rattle.listing.specs.Put.{PutsText}
 use Rattle.listing.proofs.put_hex.Given as goal

@@ -1,10 +1,7 @@
 -- `put_list` meets its contract. The invariant: the lines of the rows before this one are put. Assumes nothing.
-use mathlib.Core.Path.{◌≡◌, refl}
-use Prim.Native.Nat.{◌-◌, ◌≤◌}
-use lib.ListN.{length}
+use mathlib.Core.Path.{refl}
 use borrow.Author.Rules.{rules}
-use Rattle.listing.proofs.Writes.{Listing, list_start, list_more, list_skip, list_end}
-use Rattle.schema.specs.Table.{row_count}
+use Rattle.listing.proofs.Writes.{list_start, list_more, list_skip, list_end}
 use Rattle.listing.proofs.put_list.Goals as goal
 
 pub loop-place-init : goal.loop-place-init

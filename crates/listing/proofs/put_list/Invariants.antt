@@ -1,9 +1,8 @@
 -- `put_list` meets its contract. The invariant: the lines of the rows before this one are put. Assumes nothing.
-use mathlib.Core.Path.{◌≡◌, refl}
+use mathlib.Core.Path.{◌≡◌}
 use Prim.Native.Nat.{◌-◌, ◌≤◌}
 use lib.ListN.{length}
-use borrow.Author.Rules.{rules}
-use Rattle.listing.proofs.Writes.{Listing, list_start, list_more, list_skip, list_end}
+use Rattle.listing.proofs.Writes.{Listing}
 use Rattle.schema.specs.Table.{row_count}
 use Rattle.listing.proofs.put_list.Given as goal
 

@@ -1,11 +1,7 @@
 -- `put_more` meets its contract. The invariant: the members after the first and before the i-th are put. Assumes nothing.
-use mathlib.Core.Path.{◌≡◌, refl}
-use Prim.Native.Nat.{◌-◌, ◌*◌, ◌≤◌}
-use lib.ListN.{length, take, drop}
+use mathlib.Core.Path.{refl}
 use borrow.Author.Rules.{rules}
 use Rattle.listing.proofs.Writes.{more_start, more_more, more_counted, more_all}
-use Rattle.listing.specs.Text.{more_numbers}
-use Rattle.listing.specs.Put.{PutsText}
 use Rattle.listing.proofs.put_more.Goals as goal
 
 pub loop-i-init : goal.loop-i-init

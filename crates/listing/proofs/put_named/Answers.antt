@@ -1,5 +1,4 @@
 -- `put_named` meets its contract: the word, and then the number. Assumes nothing.
-use borrow.Author.Rules.{rules}
 use Rattle.listing.proofs.Writes.{named_put}
 use Rattle.listing.proofs.put_named.Goals as goal
 

@@ -1,5 +1,4 @@
 -- `put_numbers` meets its contract: two named numbers and the line's end. Assumes nothing.
-use borrow.Author.Rules.{rules}
 use Rattle.listing.proofs.Writes.{numbers_line_lem}
 use Rattle.listing.proofs.put_numbers.Goals as goal
 

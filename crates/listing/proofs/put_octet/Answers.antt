@@ -1,5 +1,4 @@
 -- `put_octet` meets its contract: a store where the place lies in the output, and nothing past it. Assumes nothing.
-use borrow.Author.Rules.{rules}
 use Rattle.listing.proofs.Joins.{stored, past}
 use Rattle.listing.proofs.put_octet.Goals as goal
 

@@ -1,5 +1,4 @@
 -- `put_octets` meets its contract: the word, the part and the line's end. Assumes nothing.
-use borrow.Author.Rules.{rules}
 use Rattle.listing.proofs.Writes.{octets_line_lem}
 use Rattle.listing.proofs.put_octets.Goals as goal
 

@@ -1,5 +1,4 @@
 -- `put_part` meets its contract: one law of `Writes` for each way in which a part can lie in the bytes. Assumes nothing.
-use borrow.Author.Rules.{rules}
 use Rattle.listing.proofs.Writes.{part_none, part_zero, part-rest, part-whole}
 use Rattle.listing.proofs.put_part.Goals as goal
 

@@ -1,5 +1,4 @@
 -- `put_record` meets its contract: head, both lists and count are the whole text, within its bound. Assumes nothing.
-use borrow.Author.Rules.{rules}
 use Rattle.records.specs.Content.{content_of}
 use Rattle.listing.proofs.Writes.{record_put}
 use Rattle.listing.proofs.put_record.Goals as goal

@@ -1,5 +1,4 @@
 -- `put_root` meets its contract: key, locked and state, and the hash where there is one. Assumes nothing.
-use borrow.Author.Rules.{rules}
 use Rattle.listing.proofs.Writes.{root-hashed, root_unhashed}
 use Rattle.listing.proofs.put_root.Goals as goal
 

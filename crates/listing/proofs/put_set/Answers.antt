@@ -1,5 +1,5 @@
 -- `put_set` meets its contract: a dash, or the first member and then the others. Assumes nothing.
-use borrow.Author.Rules.{rules, length_unmapped}
+use borrow.Author.Rules.{length_unmapped}
 use Rattle.listing.proofs.Writes.{set-none, set_some}
 use Rattle.listing.proofs.put_set.Goals as goal
 

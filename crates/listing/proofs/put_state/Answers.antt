@@ -1,5 +1,4 @@
 -- `put_state` meets its contract: its four pieces are put one after the other. Assumes nothing.
-use borrow.Author.Rules.{rules}
 use Rattle.listing.proofs.Writes.{state-put}
 use Rattle.listing.proofs.put_state.Goals as goal
 

@@ -1,9 +1,7 @@
 -- `put_text` meets its contract. The invariant: the first i octets of the text are put. Assumes nothing.
-use mathlib.Core.Path.{◌≡◌, refl}
+use mathlib.Core.Path.{◌≡◌}
 use Prim.Native.Nat.{◌-◌, ◌≤◌}
 use lib.ListN.{length, take}
-use borrow.Author.Rules.{rules}
-use Rattle.listing.proofs.Writes.{text-start, text_more, text_end}
 use Rattle.listing.specs.Put.{PutsText}
 use Rattle.listing.proofs.put_text.Given as goal
 

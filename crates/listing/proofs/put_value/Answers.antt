@@ -1,5 +1,4 @@
 -- `put_value` meets its contract: one law of `Writes` for each kind. Assumes nothing.
-use borrow.Author.Rules.{rules}
 use Rattle.listing.proofs.Writes.{value_set, value_number32, value_number64, value_null, value-octets, value-root}
 use Rattle.listing.proofs.put_value.Goals as goal
 

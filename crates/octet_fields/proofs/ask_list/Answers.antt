@@ -1,6 +1,5 @@
 -- `octet_fields::ask_list` meets its contract: by row, presence and kind, as `asked_at`. Assumes nothing.
 use Rattle.octet_fields.proofs.Asking.{no_row, field-absent, its_octets, no_octets}
-use borrow.Author.Rules.{rules}
 use Rattle.octet_fields.proofs.ask_list.Goals as goal
 
 pub returns-then-k-ge-ROWS : goal.returns-then-k-ge-ROWS

@@ -5,7 +5,6 @@ use Rattle.records.specs.declared.FieldList.{FieldList}
 use Rattle.octet_fields.specs.AskedRow.{asked_at}
 use Rattle.octet_fields.specs.Asked.{list_of, asked_octets}
 use Rattle.octet_fields.proofs.OctetFields.{asked_by_number}
-use borrow.Author.Rules.{rules}
 use Rattle.octet_fields.proofs.ask_octets.Goals as goal
 
 pub returns : goal.returns

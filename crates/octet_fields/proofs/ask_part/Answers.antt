@@ -1,6 +1,5 @@
 -- `octet_fields::ask_part` meets its contract: whether the part is inside. Assumes nothing.
 use Rattle.octet_fields.proofs.Asking.{part-outside, part-there}
-use borrow.Author.Rules.{rules}
 use Rattle.octet_fields.proofs.ask_part.Goals as goal
 
 pub returns-then-not-inside : goal.returns-then-not-inside

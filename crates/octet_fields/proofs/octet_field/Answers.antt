@@ -1,7 +1,6 @@
 -- `octet_fields::octet_field` meets its contract: the part that `ask_octets` says, or none. Assumes nothing.
 use native.Mathlib.Omega.{arith}
 use Rattle.octet_fields.proofs.Asking.{asked-inside, asked-part, asked-nothing, asked-start, nothing-start, moved}
-use borrow.Author.Rules.{rules}
 use Rattle.octet_fields.proofs.octet_field.Goals as goal
 
 pub overflow_add-end : goal.overflow_add-end

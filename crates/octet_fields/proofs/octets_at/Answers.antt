@@ -3,7 +3,6 @@ use native.Mathlib.Omega.{arith}
 use lib.ListN.{length}
 use Rattle.octet_fields.proofs.Asking.{moved}
 use Rattle.octet_fields.proofs.PartOctets.{part_past, part_cut, part-whole, within_past, within_start}
-use borrow.Author.Rules.{rules}
 use Rattle.octet_fields.proofs.octets_at.Goals as goal
 
 pub returns-then-n-start-clause-octets : goal.returns-then-n-start-clause-octets

@@ -1,6 +1,5 @@
 -- `read` meets its contract: the opening, the two lists and the end over the same bytes. Assumes nothing.
 use Rattle.reader.proofs.Readings.{lists_fit, opening_no, software_no, end_no, read_is}
-use borrow.Author.Rules.{rules}
 use Rattle.reader.proofs.read.Goals as goal
 
 pub returns-in-Refused : goal.returns-in-Refused

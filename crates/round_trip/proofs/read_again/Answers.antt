@@ -1,6 +1,5 @@
 -- `read_again` meets its contract: what was written reads as an equal record. Assumes nothing.
 use Rattle.round_trip.proofs.Again.{write_refused, wrote_fits, wrote_whole, read_back}
-use borrow.Author.Rules.{rules}
 use Rattle.round_trip.proofs.read_again.Goals as goal
 
 pub slice_bounds-read-end : goal.slice_bounds-read-end

@@ -1,6 +1,5 @@
 -- `write_again` meets its contract: what is accepted is written as it was. Assumes nothing.
 use Rattle.round_trip.proofs.Again.{refused_again, untouched_again, wrote_again, left_again}
-use borrow.Author.Rules.{rules}
 use Rattle.round_trip.proofs.write_again.Goals as goal
 
 pub returns-in-Refused-clause-answer : goal.returns-in-Refused-clause-answer

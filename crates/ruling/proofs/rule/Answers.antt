@@ -1,6 +1,5 @@
 -- `ruling::rule` meets its contract: 20, or the ruling by the rules of both lists. Assumes nothing.
 use Rattle.ruling.proofs.Answers.{rule_ill_shaped, rule_by_lists}
-use borrow.Author.Rules.{rules}
 use mathlib.Core.Path.{ap}
 use mathlib.Core.Bool.{not}
 use Rattle.ruling.proofs.rule.Goals as goal

@@ -1,6 +1,5 @@
 -- `ruling::ruled` meets its contract: the first refusal, or the permit. Assumes nothing.
 use Rattle.ruling.proofs.Answers.{ruled-refused, ruled-permitted}
-use borrow.Author.Rules.{rules}
 use Rattle.ruling.proofs.ruled.Goals as goal
 
 pub returns-then-number-ne0 : goal.returns-then-number-ne0

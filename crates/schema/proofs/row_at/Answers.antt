@@ -2,7 +2,6 @@
 use Rattle.schema.proofs.Table.{past_table}
 use mathlib.Core.Path.{refl}
 use Rattle.schema.specs.Table.{rows}
-use borrow.Author.Rules.{rules}
 use Rattle.schema.proofs.row_at.Goals as goal
 
 pub returns-in-0 : goal.returns-in-0

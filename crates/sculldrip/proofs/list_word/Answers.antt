@@ -1,6 +1,5 @@
 -- `list_word` meets its contract, case by case. Assumes nothing.
 use Rattle.sculldrip.proofs.Calls.{told_listed}
-use borrow.Author.Rules.{rules}
 use Rattle.sculldrip.proofs.list_word.Goals as goal
 
 pub returns-in-Short : goal.returns-in-Short

@@ -3,7 +3,6 @@ use mathlib.Core.Path.{sym, ap, ◌∙◌}
 use Rattle.reader.specs.declared.Outcome.{Outcome}
 use Rattle.sculldrip.specs.Packed.{packed}
 use Rattle.sculldrip.specs.Calls.{elements_of}
-use borrow.Author.Rules.{rules}
 use Rattle.sculldrip.proofs.read_word.Goals as goal
 
 pub returns-in-Accepted : goal.returns-in-Accepted

@@ -1,7 +1,6 @@
 -- `request_of` meets its contract, word by word. Assumes nothing.
 use mathlib.Core.Path.{refl}
 use Rattle.sculldrip.specs.Calls.{request_of}
-use borrow.Author.Rules.{rules}
 use Rattle.sculldrip.proofs.request_of.Goals as goal
 
 pub returns : goal.returns

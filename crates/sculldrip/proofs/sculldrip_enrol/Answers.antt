@@ -1,7 +1,6 @@
 -- `sculldrip_enrol` meets its contract: no record, or the ruling of the image's record. Assumes nothing.
 use Rattle.enrolment.specs.declared.Enrolment.{Enrolment}
 use Rattle.sculldrip.proofs.Calls.{numbered, enrol_none, enrol_is}
-use borrow.Author.Rules.{rules}
 use Rattle.sculldrip.proofs.sculldrip_enrol.Goals as goal
 
 pub returns-then-found-ne0 : goal.returns-then-found-ne0

@@ -1,7 +1,6 @@
 -- `sculldrip_list` meets its contract: the number of the listing's answer. Assumes nothing.
 use mathlib.Core.Path.{ap, ◌∙◌}
 use Rattle.sculldrip.specs.Packed.{packed}
-use borrow.Author.Rules.{rules}
 use Rattle.sculldrip.proofs.sculldrip_list.Goals as goal
 
 pub returns-clause-answer : goal.returns-clause-answer

@@ -3,7 +3,6 @@
 use mathlib.Core.Path.{refl}
 use Rattle.sculldrip.specs.Calls.{asked, part_words}
 use Rattle.sculldrip.proofs.Calls.{answered, ask_no_part, ask_none, ask_is, part_stored, no_part}
-use borrow.Author.Rules.{rules}
 use Rattle.sculldrip.proofs.sculldrip_octets.Goals as goal
 
 pub returns-then-part-lt2-clause-answer : goal.returns-then-part-lt2-clause-answer

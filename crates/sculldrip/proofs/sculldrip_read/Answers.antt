@@ -1,6 +1,5 @@
 -- `sculldrip_read` meets its contract: the answer is the reader's, and the image that of its record. Assumes nothing.
 use Rattle.sculldrip.proofs.ImageRead.{read_short, read-refused, read_filled}
-use borrow.Author.Rules.{rules}
 use Rattle.sculldrip.proofs.sculldrip_read.Goals as goal
 
 pub returns-then-image-lt410-clause-answer : goal.returns-then-image-lt410-clause-answer

@@ -4,7 +4,6 @@ use native.Mathlib.Omega.{arith}
 use lib.ListN.{length-set}
 use Rattle.sculldrip.specs.Calls.{permit_words}
 use Rattle.sculldrip.proofs.Calls.{answered, rule_no_request, rule_no_permit, rule_none, rule_is, permit_stored}
-use borrow.Author.Rules.{rules}
 use Rattle.sculldrip.proofs.sculldrip_rule.Goals as goal
 
 pub returns-then-request-lt16-clause-answer : goal.returns-then-request-lt16-clause-answer

@@ -1,6 +1,5 @@
 -- `sculldrip_write` meets its contract: no record, or the write of the image's record. Assumes nothing.
 use Rattle.sculldrip.proofs.Calls.{write_none, write_is}
-use borrow.Author.Rules.{rules}
 use Rattle.sculldrip.proofs.sculldrip_write.Goals as goal
 
 pub returns-then-found-ne0-clause-answer : goal.returns-then-found-ne0-clause-answer

@@ -1,6 +1,5 @@
 -- `shape::head_shaped` meets its contract: the tests of `head_shaped` in turn. Assumes nothing.
 use Rattle.shape.proofs.Shapes.{version_unknown, level_over, level_within}
-use borrow.Author.Rules.{rules}
 use Rattle.shape.proofs.head_shaped.Goals as goal
 
 pub returns-then-not-known_version : goal.returns-then-not-known_version

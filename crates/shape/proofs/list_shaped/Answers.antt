@@ -1,6 +1,5 @@
 -- `shape::list_shaped` meets its contract: each set and 704 in its own place, and then the rows. Assumes nothing.
 use Rattle.shape.proofs.Shapes.{purpose_bad, digest_bad, padding_bad, mgf_bad, root_bad, list_by_rows}
-use borrow.Author.Rules.{rules}
 use Rattle.shape.proofs.list_shaped.Goals as goal
 
 pub returns-then-not-set_row : goal.returns-then-not-set_row

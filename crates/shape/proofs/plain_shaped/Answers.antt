@@ -1,6 +1,5 @@
 -- `shape::plain_shaped` meets its contract: a number by its kind. Assumes nothing.
 use Rattle.shape.proofs.Shapes.{plain_number32, plain_number64, plain_other}
-use borrow.Author.Rules.{rules}
 use Rattle.shape.proofs.plain_shaped.Goals as goal
 
 pub returns-in-Number32 : goal.returns-in-Number32

@@ -1,6 +1,5 @@
 -- `shape::root_row` meets its contract: 704, where it is present. Assumes nothing.
 use Rattle.shape.proofs.Shapes.{row-none, row-there}
-use borrow.Author.Rules.{rules}
 use Rattle.shape.proofs.root_row.Goals as goal
 
 pub returns-then-not-present : goal.returns-then-not-present

@@ -1,12 +1,5 @@
 -- `shape::rows_shaped` meets its contract. The invariant: every row passed is well-shaped but for its own place. Assumes nothing.
-use mathlib.Core.Path.{◌≡◌}
-use mathlib.Core.Bool.{true}
-use Prim.Native.Nat.{◌-◌}
-use Rattle.records.specs.Rows.{all_below}
-use Rattle.shape.specs.Plain.{row_plain}
 use Rattle.shape.proofs.Shapes.{rows_begin, row-absent, not_held, row_bad, row_good_lem, rows_end}
-use borrow.Author.Rules.{rules}
-use Rattle.schema.specs.Table.{row_count}
 use mathlib.Core.Path.{ap}
 use mathlib.Core.Bool.{not}
 use Rattle.shape.proofs.rows_shaped.Goals as goal

@@ -4,8 +4,6 @@ use mathlib.Core.Bool.{true}
 use Prim.Native.Nat.{◌-◌}
 use Rattle.records.specs.Rows.{all_below}
 use Rattle.shape.specs.Plain.{row_plain}
-use Rattle.shape.proofs.Shapes.{rows_begin, row-absent, not_held, row_bad, row_good_lem, rows_end}
-use borrow.Author.Rules.{rules}
 use Rattle.schema.specs.Table.{row_count}
 use Rattle.shape.proofs.rows_shaped.Given as goal
 

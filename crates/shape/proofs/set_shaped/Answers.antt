@@ -1,9 +1,7 @@
 -- `shape::set_shaped` meets its contract. The invariant: every member passed is above the one before it.
 -- Assumes nothing.
-use Prim.Native.Nat.{◌-◌}
 use native.Mathlib.Omega.{arith}
-use Rattle.shape.proofs.Shapes.{Members, members_begin, too_many, member_bad, member_small, member_good_lem, members_end}
-use borrow.Author.Rules.{rules}
+use Rattle.shape.proofs.Shapes.{members_begin, too_many, member_bad, member_small, member_good_lem, members_end}
 use mathlib.Core.Path.{ap}
 use mathlib.Core.Bool.{not}
 use Rattle.shape.proofs.set_shaped.Goals as goal

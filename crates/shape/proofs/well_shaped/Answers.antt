@@ -1,6 +1,5 @@
 -- `shape::well_shaped` meets its contract: the tests of `well_shaped_record` in turn. Assumes nothing.
 use Rattle.shape.proofs.Shapes.{head_bad, software_bad, hardware_too}
-use borrow.Author.Rules.{rules}
 use Rattle.shape.proofs.well_shaped.Goals as goal
 
 pub returns-then-not-head_shaped : goal.returns-then-not-head_shaped

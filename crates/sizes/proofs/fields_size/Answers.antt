@@ -1,8 +1,6 @@
 -- `fields_size` meets its contract. The invariant: the fields of the rows passed are counted. Assumes nothing.
-use Prim.Native.Nat.{◌-◌, ◌≤◌}
-use Rattle.sizes.proofs.Sizing.{Counted, set_value, root-value, plain_value_lem, fields_start, fields_more, fields_skip, fields_end}
+use Rattle.sizes.proofs.Sizing.{set_value, root-value, plain_value_lem, fields_start, fields_more, fields_skip, fields_end}
 use borrow.Author.Rules.{rules}
-use Rattle.schema.specs.Table.{row_count}
 use Rattle.sizes.proofs.fields_size.Goals as goal
 
 pub loop-place-init : goal.loop-place-init

@@ -1,6 +1,5 @@
 -- `head_size` meets its contract: both versions with their levels, and both parts. Assumes nothing.
 use Rattle.sizes.proofs.Sizing.{head-sized}
-use borrow.Author.Rules.{rules}
 use Rattle.sizes.proofs.head_size.Goals as goal
 
 pub returns : goal.returns

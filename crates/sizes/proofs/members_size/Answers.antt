@@ -1,11 +1,5 @@
 -- `members_size` meets its contract. The invariant: the members before the i-th are counted. Assumes nothing.
-use Prim.Native.Nat.{◌-◌, ◌≤◌}
-use mathlib.Core.Path.{◌≡◌}
-use lib.ListN.{length, take}
-use Rattle.codec.specs.Integer.{integer_element}
-use Rattle.codec.specs.Element.{chain_octets}
 use Rattle.sizes.proofs.Sizing.{members-start, members_more, members-counted, members_all}
-use Rattle.sizes.specs.Size.{Sized}
 use borrow.Author.Rules.{rules}
 use Rattle.sizes.proofs.members_size.Goals as goal
 

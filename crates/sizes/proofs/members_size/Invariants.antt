@@ -4,9 +4,7 @@ use mathlib.Core.Path.{◌≡◌}
 use lib.ListN.{length, take}
 use Rattle.codec.specs.Integer.{integer_element}
 use Rattle.codec.specs.Element.{chain_octets}
-use Rattle.sizes.proofs.Sizing.{members-start, members_more, members-counted, members_all}
 use Rattle.sizes.specs.Size.{Sized}
-use borrow.Author.Rules.{rules}
 use Rattle.sizes.proofs.members_size.Given as goal
 
 abbrev pub invariant-loop-i : goal.invariant-loop-i

@@ -1,6 +1,5 @@
 -- `number_size` meets its contract: one octet of identifier and one of length. Assumes nothing.
 use Rattle.sizes.proofs.Sizing.{integer_sized, enumerated_sized}
-use borrow.Author.Rules.{rules}
 use Rattle.sizes.proofs.number_size.Goals as goal
 
 pub returns-clause-integer : goal.returns-clause-integer

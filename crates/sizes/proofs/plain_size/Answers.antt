@@ -1,6 +1,5 @@
 -- `plain_size` meets its contract: one law of `Sizes` for each arm. Assumes nothing.
 use Rattle.sizes.proofs.Sizing.{value_number32, value_number64, value-octets, value_null}
-use borrow.Author.Rules.{rules}
 use Rattle.sizes.proofs.plain_size.Goals as goal
 
 pub returns-in-Number32 : goal.returns-in-Number32

@@ -1,6 +1,5 @@
 -- `root_content_size` meets its contract: key, locked and state, and the hash where there is one. Assumes nothing.
 use Rattle.sizes.proofs.Sizing.{root-hashed, root_plain}
-use borrow.Author.Rules.{rules}
 use Rattle.sizes.proofs.root_content_size.Goals as goal
 
 pub returns-then-t : goal.returns-then-t

@@ -1,6 +1,5 @@
 -- `root_size` meets its contract: header and content. Assumes nothing.
 use Rattle.sizes.proofs.Sizing.{root-sized}
-use borrow.Author.Rules.{rules}
 use Rattle.sizes.proofs.root_size.Goals as goal
 
 pub returns : goal.returns

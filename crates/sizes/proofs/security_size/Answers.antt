@@ -1,6 +1,5 @@
 -- `security_size` meets its contract: the version and the level. Assumes nothing.
 use Rattle.sizes.proofs.Sizing.{security_sized}
-use borrow.Author.Rules.{rules}
 use Rattle.sizes.proofs.security_size.Goals as goal
 
 pub returns : goal.returns

@@ -1,6 +1,5 @@
 -- `set_size` meets its contract: header and members. Assumes nothing.
 use Rattle.sizes.proofs.Sizing.{set-sized}
-use borrow.Author.Rules.{rules}
 use Rattle.sizes.proofs.set_size.Goals as goal
 
 pub returns : goal.returns

@@ -1,6 +1,5 @@
 -- `write` meets its contract: the tests of `written` in turn, and then the whole encoding. Assumes nothing.
 use Rattle.writer.proofs.Answers.{ill_shaped_lem, outside, too_long_lem, short, wrote}
-use borrow.Author.Rules.{rules}
 use mathlib.Core.Path.{ap}
 use mathlib.Core.Bool.{not}
 use Rattle.writer.proofs.write.Goals as goal

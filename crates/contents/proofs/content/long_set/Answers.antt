@@ -1,6 +1,5 @@
 -- `long_set` meets its contract: one SET, and nothing after it. Assumes nothing.
 use Rattle.contents.proofs.Contents.{set_content_no, set_content_is, set_extra, refused_fit, refused_slots, past_slots}
-use borrow.Author.Rules.{rules}
 use Rattle.contents.proofs.content.long_set.Goals as goal
 
 pub returns-then-next-end-clause-is : goal.returns-then-next-end-clause-is

@@ -1,7 +1,6 @@
 -- `plain_at` meets its contract: the content of each of the four plain kinds. Assumes nothing.
 use Rattle.contents.proofs.Contents.{as_number32, as_number64, as_null, as_octets_lem, as_none}
 use Rattle.contents.proofs.Kept.{in_number32, in_number64, in_null, in_octets, in_none}
-use borrow.Author.Rules.{rules}
 use Rattle.contents.proofs.content.plain_at.Goals as goal
 
 pub returns-in-Number32-clause-is : goal.returns-in-Number32-clause-is

@@ -1,6 +1,5 @@
 -- `refused_set` meets its contract: the set beside the refusal is the empty one. Assumes nothing.
 use mathlib.Core.Path.{refl}
-use borrow.Author.Rules.{rules}
 use Rattle.contents.proofs.content.refused_set.Goals as goal
 
 pub returns : goal.returns

@@ -1,6 +1,5 @@
 -- `set_at` meets its contract: by the short way, or by the long one. Assumes nothing.
 use Rattle.contents.proofs.Shorts.{one_set, one_slots}
-use borrow.Author.Rules.{rules}
 use Rattle.contents.proofs.content.set_at.Goals as goal
 
 pub returns-then-one-lt128-clause-is : goal.returns-then-one-lt128-clause-is

@@ -1,6 +1,5 @@
 -- `set_content` meets its contract: `set_at`, for any end. Assumes nothing.
 use Rattle.contents.proofs.Clipped.{set_clipped}
-use borrow.Author.Rules.{rules}
 use Rattle.contents.proofs.content.set_content.Goals as goal
 
 pub returns-then-stop-at-clause-is : goal.returns-then-stop-at-clause-is

@@ -1,7 +1,6 @@
 -- `element_at` meets its contract: a header that lies in its holder, or the header's refusal or 9 at the end. Assumes nothing.
 use native.Mathlib.Omega.{arith}
 use Rattle.contents.proofs.Open.{open_missing, open_no, open_is, header-inside}
-use borrow.Author.Rules.{rules}
 use Rattle.contents.proofs.element.element_at.Goals as goal
 
 pub returns-then-end-at-clause-is : goal.returns-then-end-at-clause-is

@@ -1,6 +1,5 @@
 -- `open_element` meets its contract: `element_at`, for any end. Assumes nothing.
 use Rattle.contents.proofs.Clipped.{element_clipped, element_more}
-use borrow.Author.Rules.{rules}
 use Rattle.contents.proofs.element.open_element.Goals as goal
 
 pub returns-clause-is : goal.returns-clause-is

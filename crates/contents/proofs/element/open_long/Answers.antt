@@ -1,6 +1,5 @@
 -- `open_long` meets its contract: the element of this class, form and number, or 9 at its start. Assumes nothing.
 use Rattle.contents.proofs.Open.{tagged_no, tagged-form, tagged-number, tagged_is, element-inside}
-use borrow.Author.Rules.{rules}
 use Rattle.contents.proofs.element.open_long.Goals as goal
 
 pub returns-then-f-form-clause-is : goal.returns-then-f-form-clause-is

@@ -1,6 +1,5 @@
 -- `open_tagged` meets its contract: `tagged_at`, for any end. Assumes nothing.
 use Rattle.contents.proofs.Clipped.{tagged_clipped, tagged_more}
-use borrow.Author.Rules.{rules}
 use Rattle.contents.proofs.element.open_tagged.Goals as goal
 
 pub returns-clause-is : goal.returns-clause-is

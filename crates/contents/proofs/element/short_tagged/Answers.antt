@@ -1,7 +1,6 @@
 -- `short_tagged` meets its contract: a header of two octets. Assumes nothing.
 use native.Mathlib.Omega.{arith}
 use Rattle.contents.proofs.Shorts.{header-short}
-use borrow.Author.Rules.{rules}
 use Rattle.contents.proofs.element.short_tagged.Goals as goal
 
 pub overflow_cast-a : goal.overflow_cast-a

@@ -1,6 +1,5 @@
 -- `tagged_at` meets its contract: by the short way, or by the long one. Assumes nothing.
 use Rattle.contents.proofs.Shorts.{tagged-short, tagged_within}
-use borrow.Author.Rules.{rules}
 use Rattle.contents.proofs.element.tagged_at.Goals as goal
 
 pub returns-in-Is-clause-is : goal.returns-in-Is-clause-is

@@ -1,7 +1,6 @@
 -- `contents::head::head_at` meets its contract: the attestation's pair, and then what follows it. Assumes nothing.
 use native.Mathlib.Omega.{arith}
 use Rattle.contents.proofs.Heads.{head_no, head-is, head-inside, attestation_known}
-use borrow.Author.Rules.{rules}
 use Rattle.contents.proofs.head.head_at.Goals as goal
 
 pub read_after-requires : goal.read_after-requires

@@ -1,6 +1,5 @@
 -- `contents::head::read_after` meets its contract: KeyMint's pair, and then the names. Assumes nothing.
 use Rattle.contents.proofs.Heads.{after_no, after_one, after_is, after_inside}
-use borrow.Author.Rules.{rules}
 use Rattle.contents.proofs.head.read_after.Goals as goal
 
 pub returns-in-Refused-clause-is : goal.returns-in-Refused-clause-is

@@ -1,7 +1,6 @@
 -- `contents::head::read_attestation` meets its contract: the version gives the level its top. Assumes nothing.
 use Rattle.contents.proofs.Heads.{version_known, level_small, attestation_no, attestation-is, attestation-inside}
 use native.Mathlib.Omega.{arith}
-use borrow.Author.Rules.{rules}
 use Rattle.contents.proofs.head.read_attestation.Goals as goal
 
 pub overflow_cast-version : goal.overflow_cast-version

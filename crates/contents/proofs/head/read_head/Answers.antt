@@ -1,6 +1,5 @@
 -- `read_head` meets its contract: `head_at`, for any end. Assumes nothing.
 use Rattle.contents.proofs.Clipped.{head_clipped, head_more}
-use borrow.Author.Rules.{rules}
 use Rattle.contents.proofs.head.read_head.Goals as goal
 
 pub returns-clause-is : goal.returns-clause-is

@@ -2,7 +2,6 @@
 use Rattle.contents.proofs.Heads.{level_small, keymint_no, keymint-is, keymint-inside}
 use Rattle.contents.proofs.Members.{number_small}
 use native.Mathlib.Omega.{arith}
-use borrow.Author.Rules.{rules}
 use Rattle.contents.proofs.head.read_keymint.Goals as goal
 
 pub overflow_cast-n : goal.overflow_cast-n

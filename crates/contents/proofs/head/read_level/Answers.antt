@@ -3,7 +3,6 @@ use mathlib.Core.Path.{refl}
 use Rattle.contents.proofs.Heads.{level_no, level-is}
 use Rattle.contents.proofs.Members.{number_small, number-inside}
 use native.Mathlib.Omega.{arith}
-use borrow.Author.Rules.{rules}
 use Rattle.contents.proofs.head.read_level.Goals as goal
 
 pub overflow_cast-security : goal.overflow_cast-security

@@ -1,6 +1,5 @@
 -- `contents::head::read_names` meets its contract: one OCTET STRING after the other. Assumes nothing.
 use Rattle.contents.proofs.Heads.{names_no, names_one, names_is, names_inside}
-use borrow.Author.Rules.{rules}
 use Rattle.contents.proofs.head.read_names.Goals as goal
 
 pub returns-in-Refused-clause-is : goal.returns-in-Refused-clause-is

@@ -1,6 +1,5 @@
 -- `contents::head::read_version` meets its contract: a number, and then whether it is known. Assumes nothing.
 use Rattle.contents.proofs.Heads.{version_no, version-is, version_unknown, version-inside}
-use borrow.Author.Rules.{rules}
 use Rattle.contents.proofs.head.read_version.Goals as goal
 
 pub returns-then-known_version-clause-is : goal.returns-then-known_version-clause-is

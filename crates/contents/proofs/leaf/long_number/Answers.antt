@@ -2,7 +2,6 @@
 use native.Mathlib.Omega.{arith}
 use Rattle.contents.proofs.Leaves.{number_no, number_wrong, number_is_lem}
 use Rattle.contents.proofs.Open.{tagged-inside}
-use borrow.Author.Rules.{rules}
 use Rattle.contents.proofs.leaf.long_number.Goals as goal
 
 pub value_of-requires : goal.value_of-requires

@@ -2,7 +2,6 @@
 use native.Mathlib.Omega.{arith}
 use Rattle.contents.proofs.Leaves.{boolean_no, boolean_long, boolean_false, boolean_true, boolean_other}
 use Rattle.contents.proofs.Open.{tagged-inside}
-use borrow.Author.Rules.{rules}
 use Rattle.contents.proofs.leaf.read_boolean.Goals as goal
 
 pub overflow_sub-stop : goal.overflow_sub-stop

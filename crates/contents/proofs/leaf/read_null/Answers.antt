@@ -2,7 +2,6 @@
 use native.Mathlib.Omega.{arith}
 use Rattle.contents.proofs.Leaves.{null_no, null_is, null_some}
 use Rattle.contents.proofs.Open.{tagged-inside}
-use borrow.Author.Rules.{rules}
 use Rattle.contents.proofs.leaf.read_null.Goals as goal
 
 pub returns-then-body-stop-clause-is : goal.returns-then-body-stop-clause-is

@@ -2,7 +2,6 @@
 use native.Mathlib.Omega.{arith}
 use Rattle.contents.proofs.Leaves.{octets_no, octets-is}
 use Rattle.contents.proofs.Open.{tagged-inside}
-use borrow.Author.Rules.{rules}
 use Rattle.contents.proofs.leaf.read_octets.Goals as goal
 
 pub overflow_sub-len : goal.overflow_sub-len

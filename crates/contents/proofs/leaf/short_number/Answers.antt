@@ -1,7 +1,6 @@
 -- `short_number` meets its contract: one content octet. Assumes nothing.
 use native.Mathlib.Omega.{arith}
 use Rattle.contents.proofs.Shorts.{number_one, number-none}
-use borrow.Author.Rules.{rules}
 use Rattle.contents.proofs.leaf.short_number.Goals as goal
 
 pub returns-then-tag-ge31 : goal.returns-then-tag-ge31

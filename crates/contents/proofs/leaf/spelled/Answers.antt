@@ -1,8 +1,4 @@
 -- `spelled` meets its contract: the number of the octets up to here, and no wrap-around in eight of them. Assumes nothing.
-use Rattle.codec.specs.Shortest.{big_endian}
-use lib.Seq.{slice}
-use mathlib.Core.Path.{◌≡◌}
-use Prim.Native.Nat.{◌-◌, ◌≤◌}
 use native.Mathlib.Omega.{arith}
 use Rattle.contents.proofs.Spelled.{spelled_fits, spelled_more, spelled_none, spelled_all}
 use borrow.Author.Rules.{rules}

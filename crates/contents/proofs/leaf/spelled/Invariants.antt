@@ -3,9 +3,6 @@ use Rattle.codec.specs.Shortest.{big_endian}
 use lib.Seq.{slice}
 use mathlib.Core.Path.{◌≡◌}
 use Prim.Native.Nat.{◌-◌, ◌≤◌}
-use native.Mathlib.Omega.{arith}
-use Rattle.contents.proofs.Spelled.{spelled_fits, spelled_more, spelled_none, spelled_all}
-use borrow.Author.Rules.{rules}
 use Rattle.contents.proofs.leaf.spelled.Given as goal
 
 abbrev pub invariant-loop-i : goal.invariant-loop-i

@@ -1,6 +1,5 @@
 -- `within_top` meets its contract: more than eight octets are above any top, and fewer are compared with it. Assumes nothing.
 use Rattle.contents.proofs.Spelled.{top_long, top_over, top_within}
-use borrow.Author.Rules.{rules}
 use Rattle.contents.proofs.leaf.within_top.Goals as goal
 
 pub returns-then-end-at-gt8 : goal.returns-then-end-at-gt8

@@ -1,6 +1,5 @@
 -- `contents::root::read_hash` meets its contract: the last member, read or not there, and then the end. Assumes nothing.
 use Rattle.contents.proofs.Roots.{hash-none, hash-none-inside, hash_no, hash-is, hash-inside}
-use borrow.Author.Rules.{rules}
 use Rattle.contents.proofs.root.read_hash.Goals as goal
 
 pub returns-then-not-hashed-clause-is : goal.returns-then-not-hashed-clause-is

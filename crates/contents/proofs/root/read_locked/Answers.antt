@@ -1,6 +1,5 @@
 -- `contents::root::read_locked` meets its contract: one member, and then what is left of the content. Assumes nothing.
 use Rattle.contents.proofs.Roots.{locked_no, locked-is}
-use borrow.Author.Rules.{rules}
 use Rattle.contents.proofs.root.read_locked.Goals as goal
 
 pub returns-in-Refused-clause-is : goal.returns-in-Refused-clause-is

@@ -2,7 +2,6 @@
 use native.Mathlib.Omega.{arith}
 use Rattle.contents.proofs.Open.{tagged-inside}
 use Rattle.contents.proofs.Roots.{root_no, root_is_lem, root-inside}
-use borrow.Author.Rules.{rules}
 use Rattle.contents.proofs.root.read_root.Goals as goal
 
 pub read_trust-requires : goal.read_trust-requires

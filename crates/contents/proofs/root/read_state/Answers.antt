@@ -2,7 +2,6 @@
 use native.Mathlib.Omega.{arith}
 use Rattle.contents.proofs.Members.{number_small, number-inside}
 use Rattle.contents.proofs.Roots.{state_no, state-is}
-use borrow.Author.Rules.{rules}
 use Rattle.contents.proofs.root.read_state.Goals as goal
 
 pub overflow_cast-n : goal.overflow_cast-n

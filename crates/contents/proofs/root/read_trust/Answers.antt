@@ -2,7 +2,6 @@
 use native.Mathlib.Omega.{arith}
 use Rattle.contents.proofs.Roots.{octets-inside}
 use Rattle.contents.proofs.Roots.{trust_no, trust-is}
-use borrow.Author.Rules.{rules}
 use Rattle.contents.proofs.root.read_trust.Goals as goal
 
 pub read_locked-requires : goal.read_locked-requires

@@ -1,6 +1,5 @@
 -- `one_member` meets its contract: five octets, the last below 128. Assumes nothing.
 use Rattle.contents.proofs.Shorts.{one_member, one_none}
-use borrow.Author.Rules.{rules}
 use Rattle.contents.proofs.set.one_member.Goals as goal
 
 pub returns-then-end-at-ne5 : goal.returns-then-end-at-ne5

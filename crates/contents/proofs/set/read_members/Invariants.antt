@@ -1,9 +1,6 @@
 -- `read_members` meets its contract: the slots up to here hold the members up to here. Assumes nothing.
-use mathlib.Core.Path.{refl}
 use Prim.Native.Nat.{◌-◌}
-use native.Mathlib.Omega.{arith}
-use Rattle.contents.proofs.Members.{Gathered, gathered_none, gathered_many, gathered_no, gathered_order, gathered_more, gathered_slots, gathered_all, number_small, number-inside}
-use borrow.Author.Rules.{rules}
+use Rattle.contents.proofs.Members.{Gathered}
 use Rattle.contents.proofs.set.read_members.Given as goal
 
 abbrev pub invariant-loop-place : goal.invariant-loop-place

@@ -1,5 +1,4 @@
 -- `clipped` meets its contract: past the end of the bytes, all of them are taken. Assumes nothing.
-use borrow.Author.Rules.{rules}
 use Rattle.der.proofs.Headers.{clipped_all, nearer-first, nearer-last}
 use Rattle.der.proofs.header.clipped.Goals as goal
 

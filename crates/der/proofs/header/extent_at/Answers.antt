@@ -1,7 +1,6 @@
 -- `extent_at` meets its contract: a length whose content fits. Assumes nothing.
 use Rattle.der.proofs.Headers.{length_at}
 use Rattle.der.proofs.Short.{extent_is}
-use borrow.Author.Rules.{rules}
 use Rattle.der.proofs.header.extent_at.Goals as goal
 
 pub overflow_sub-end : goal.overflow_sub-end

@@ -1,7 +1,6 @@
 -- `header_at` meets its contract: identifier, length and fit, one law of `Headers` for each answer. Assumes nothing.
 use native.Mathlib.Omega.{arith}
 use mathlib.Core.Path.{subst}
-use Prim.Native.Nat.{◌<◌, ◌≤◌}
 use Rattle.der.specs.Header.{IdentifierInside, LengthInside}
 use Rattle.der.proofs.Headers.{no_identifier, no_length, no_fit, fits-header}
 use Rattle.der.proofs.header.header_at.Goals as goal

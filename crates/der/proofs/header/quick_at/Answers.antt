@@ -1,6 +1,5 @@
 -- `quick_at` meets its contract: by the short looks, or by the long one. Assumes nothing.
 use Rattle.der.proofs.Short.{quick_is, quick_from, quick_size, quick_to}
-use borrow.Author.Rules.{rules}
 use Rattle.der.proofs.header.quick_at.Goals as goal
 
 pub overflow_sub-result : goal.overflow_sub-result

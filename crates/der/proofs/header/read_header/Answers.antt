@@ -1,6 +1,5 @@
 -- `der::header::read_header` meets its contract: what `header_at` ensures at the clipped end holds at the end given.
 -- Assumes nothing.
-use borrow.Author.Rules.{rules}
 use Rattle.der.proofs.Headers.{header_clipped, inside_more}
 use Rattle.der.proofs.header.read_header.Goals as goal
 

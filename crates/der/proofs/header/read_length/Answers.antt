@@ -5,7 +5,6 @@ use Rattle.answer.specs.Answer.{pick, guard}
 use Rattle.codec.specs.Header.{read_length}
 use Rattle.der.proofs.Bits.{tests}
 use Rattle.der.proofs.Headers.{length_high}
-use borrow.Author.Rules.{rules}
 use Rattle.der.proofs.header.read_length.Goals as goal
 
 pub returns-then-end-at-clause-is : goal.returns-then-end-at-clause-is

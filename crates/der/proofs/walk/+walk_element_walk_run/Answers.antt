@@ -1,7 +1,6 @@
 -- `walk_element` and `walk_run` meet their contracts together. Assumes nothing.
 use borrow.Author.Rules.{rules}
 use native.Mathlib.Omega.{arith}
-use mathlib.Core.Path.{refl}
 use Rattle.der.proofs.Elements.{element_deep, element_many, element_no, element_flat, element-run, header_in, inside-run, left_all, run_no, run_more, run_end, step_in}
 use Rattle.der.proofs.Quick.{quick_more, quick_in}
 use Rattle.der.proofs.walk.+walk_element_walk_run.Goals as goal

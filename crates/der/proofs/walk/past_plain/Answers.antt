@@ -1,6 +1,5 @@
 -- `past_plain` meets its contract: an identifier of one octet, and its content. Assumes nothing.
 use Rattle.der.proofs.Quick.{says_nothing, plain_to}
-use borrow.Author.Rules.{rules}
 use Rattle.der.proofs.walk.past_plain.Goals as goal
 
 pub returns-then-s-at-ge31 : goal.returns-then-s-at-ge31

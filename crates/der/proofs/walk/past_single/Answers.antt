@@ -2,7 +2,6 @@
 use native.Mathlib.Omega.{arith}
 use Rattle.der.proofs.Short.{extent_of}
 use Rattle.der.proofs.Quick.{says_nothing, single_to}
-use borrow.Author.Rules.{rules}
 use Rattle.der.proofs.walk.past_single.Goals as goal
 
 pub returns-then-form-eq0 : goal.returns-then-form-eq0

@@ -1,5 +1,4 @@
 -- `der::walk::walk` meets its contract: each of its answers is a law of `Elements` about the whole. Assumes nothing.
-use borrow.Author.Rules.{rules}
 use Rattle.der.proofs.Elements.{all_long, all_missing, all_no, all_ok, all_spare}
 use Rattle.der.proofs.walk.walk.Goals as goal
 

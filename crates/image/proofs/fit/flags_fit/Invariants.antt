@@ -1,7 +1,6 @@
 -- `flags_fit` meets its contract: the words passed are within their top. Assumes nothing.
 use Prim.Native.Nat.{◌-◌}
-use Rattle.image.proofs.Fits.{Passed, passed_none, word_bad, word_good, passed_all}
-use borrow.Author.Rules.{rules}
+use Rattle.image.proofs.Fits.{Passed}
 use Rattle.image.proofs.fit.flags_fit.Given as goal
 
 abbrev pub invariant-loop-k : goal.invariant-loop-k

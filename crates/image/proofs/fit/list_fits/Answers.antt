@@ -2,7 +2,6 @@
 use lib.ListN.{get_or}
 use Rattle.image.specs.Image.{set_fits, root_fits}
 use Rattle.image.proofs.Fits.{from-drop, flags_bad, purpose_bad, digest_bad, padding_bad, mgf_bad, list_rest}
-use borrow.Author.Rules.{rules}
 use mathlib.Core.Path.{ap}
 use mathlib.Core.Bool.{not}
 use Rattle.image.proofs.fit.list_fits.Goals as goal

@@ -1,7 +1,5 @@
 -- `narrow` meets its contract: the words passed are within their top. Assumes nothing.
-use Prim.Native.Nat.{◌-◌}
-use Rattle.image.proofs.Fits.{Passed, passed_none, word_bad, word_good, passed_all}
-use borrow.Author.Rules.{rules}
+use Rattle.image.proofs.Fits.{passed_none, word_bad, word_good, passed_all}
 use Rattle.image.proofs.fit.narrow.Goals as goal
 
 pub loop-k-init : goal.loop-k-init

@@ -1,6 +1,5 @@
 -- `root_fits` meets its contract: the tests in their order. Assumes nothing.
 use Rattle.image.proofs.Fits.{root-absent, locked_bad, state_bad, root-rest}
-use borrow.Author.Rules.{rules}
 use Rattle.image.proofs.fit.root_fits.Goals as goal
 
 pub returns-then-flag-ne1 : goal.returns-then-flag-ne1

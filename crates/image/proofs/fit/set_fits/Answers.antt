@@ -1,6 +1,5 @@
 -- `set_fits` meets its contract: the members that stand before the count. Assumes nothing.
 use Rattle.image.proofs.Fits.{set-absent, set-few, set_full}
-use borrow.Author.Rules.{rules}
 use Rattle.image.proofs.fit.set_fits.Goals as goal
 
 pub returns-then-flag-ne1 : goal.returns-then-flag-ne1

@@ -1,7 +1,6 @@
 -- `words_fit` meets its contract: the tests in their order. Assumes nothing.
 use Rattle.image.specs.Image.{list_fits}
 use Rattle.image.proofs.Fits.{from-drop, head_bad, software_bad, words-rest}
-use borrow.Author.Rules.{rules}
 use mathlib.Core.Path.{ap}
 use mathlib.Core.Bool.{not}
 use Rattle.image.proofs.fit.words_fit.Goals as goal

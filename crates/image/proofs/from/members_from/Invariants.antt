@@ -1,11 +1,9 @@
 -- `members_from` meets its contract: the slots passed hold the words passed. Assumes nothing.
-use mathlib.Core.Path.{refl}
 use Prim.Native.Nat.{◌-◌}
 use lib.ListN.{take}
 use mathlib.Core.List.{map}
 use Rattle.image.specs.Image.{low}
-use Rattle.image.proofs.Copies.{Copied, copied_none, mapped_more, mapped_all}
-use borrow.Author.Rules.{rules}
+use Rattle.image.proofs.Copies.{Copied}
 use Rattle.image.proofs.from.members_from.Given as goal
 
 abbrev pub invariant-loop-k : goal.invariant-loop-k

@@ -1,8 +1,6 @@
 -- `numbers_from` meets its contract: the slots passed hold the words passed. Assumes nothing.
 use mathlib.Core.Path.{refl}
-use Prim.Native.Nat.{◌-◌}
-use Rattle.image.proofs.Copies.{Copied, copied_none, copied_more, copied_all}
-use borrow.Author.Rules.{rules}
+use Rattle.image.proofs.Copies.{copied_none, copied_more, copied_all}
 use Rattle.image.proofs.from.numbers_from.Goals as goal
 
 pub loop-k-init : goal.loop-k-init

@@ -1,8 +1,6 @@
 -- `numbers_from` meets its contract: the slots passed hold the words passed. Assumes nothing.
-use mathlib.Core.Path.{refl}
 use Prim.Native.Nat.{◌-◌}
-use Rattle.image.proofs.Copies.{Copied, copied_none, copied_more, copied_all}
-use borrow.Author.Rules.{rules}
+use Rattle.image.proofs.Copies.{Copied}
 use Rattle.image.proofs.from.numbers_from.Given as goal
 
 abbrev pub invariant-loop-k : goal.invariant-loop-k

@@ -2,7 +2,6 @@
 use Rattle.image.specs.Image.{list_from}
 use Rattle.image.proofs.Fits.{from-drop}
 use Rattle.image.proofs.Parts.{record_made_lem}
-use borrow.Author.Rules.{rules}
 use Rattle.image.proofs.from.record_from.Goals as goal
 
 pub returns : goal.returns

@@ -1,6 +1,5 @@
 -- `root_from` meets its contract, word by word. Assumes nothing.
 use Rattle.image.proofs.Parts.{root-made}
-use borrow.Author.Rules.{rules}
 use Rattle.image.proofs.from.root_from.Goals as goal
 
 pub returns : goal.returns

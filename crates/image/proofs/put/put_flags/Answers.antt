@@ -1,11 +1,10 @@
 -- `put_flags` meets its contract: the words passed stand in their places. Assumes nothing.
 use mathlib.Core.List.{map}
-use Prim.Native.Nat.{◌-◌}
 use native.Mathlib.Omega.{arith}
 use mathlib.Core.Path.{◌∙◌}
 use lib.ListN.{length-map}
 use Rattle.image.specs.Image.{flag_word}
-use Rattle.image.proofs.Puts.{Placed, placed_none, placed_more, placed_all, placed_length, flag_word_lem}
+use Rattle.image.proofs.Puts.{placed_none, placed_more, placed_all, placed_length, flag_word_lem}
 use borrow.Author.Rules.{rules}
 use Rattle.image.proofs.put.put_flags.Goals as goal
 

@@ -1,6 +1,5 @@
 -- `put_list` meets its contract: one write after the other. Assumes nothing.
 use Rattle.image.proofs.Puts.{list_put}
-use borrow.Author.Rules.{rules}
 use Rattle.image.proofs.put.put_list.Goals as goal
 
 pub returns-clause-is : goal.returns-clause-is

@@ -1,5 +1,4 @@
 -- `put_members` meets its contract: the words passed stand in their places. Assumes nothing.
-use Prim.Native.Nat.{◌-◌}
 use lib.ListN.{get_or}
 use mir.Syntax.{w32}
 use mir.Val.{Fits}
@@ -8,7 +7,7 @@ use Rattle.records.proofs.ContentShaped.{all_of}
 use Rattle.image.specs.Image.{narrow_at}
 use native.Mathlib.Omega.{arith}
 use mathlib.Core.Path.{refl}
-use Rattle.image.proofs.Puts.{Placed, placed_none, placed_more, placed_all, placed_length}
+use Rattle.image.proofs.Puts.{placed_none, placed_more, placed_all, placed_length}
 use borrow.Author.Rules.{rules}
 use Rattle.image.proofs.put.put_members.Goals as goal
 

@@ -1,8 +1,7 @@
 -- `put_numbers` meets its contract: the words passed stand in their places. Assumes nothing.
-use Prim.Native.Nat.{◌-◌}
 use native.Mathlib.Omega.{arith}
 use mathlib.Core.Path.{refl}
-use Rattle.image.proofs.Puts.{Placed, placed_none, placed_more, placed_all, placed_length}
+use Rattle.image.proofs.Puts.{placed_none, placed_more, placed_all, placed_length}
 use borrow.Author.Rules.{rules}
 use Rattle.image.proofs.put.put_numbers.Goals as goal
 

@@ -2,7 +2,6 @@
 use Rattle.image.proofs.Puts.{root_stored_lem}
 use native.Mathlib.Omega.{arith}
 use lib.ListN.{length-set}
-use borrow.Author.Rules.{rules}
 use Rattle.image.proofs.put.put_root.Goals as goal
 
 pub bounds-out-at-2 : goal.bounds-out-at-2

@@ -1,6 +1,5 @@
 -- `put_words` meets its contract: one write after the other. Assumes nothing.
 use Rattle.image.proofs.Puts.{image-put}
-use borrow.Author.Rules.{rules}
 use Rattle.image.proofs.put.put_words.Goals as goal
 
 pub returns-clause-is : goal.returns-clause-is

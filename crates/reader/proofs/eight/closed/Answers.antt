@@ -1,6 +1,5 @@
 -- `closed` meets its contract: the second list's own refusal, then 9, then 7. Assumes nothing.
 use Rattle.reader.proofs.Eights.{closed_no, closed_extra, closed_spare, closed_is}
-use borrow.Author.Rules.{rules}
 use Rattle.reader.proofs.eight.closed.Goals as goal
 
 pub returns-then-next-stop : goal.returns-then-next-stop

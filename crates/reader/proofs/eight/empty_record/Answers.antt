@@ -1,6 +1,5 @@
 -- `empty_record` meets its contract: no version, no octets, no field. Assumes nothing.
 use Rattle.reader.proofs.Eights.{record_is}
-use borrow.Author.Rules.{rules}
 use Rattle.reader.proofs.eight.empty_record.Goals as goal
 
 pub returns : goal.returns

@@ -4,7 +4,6 @@ use lib.ListN.{length}
 use native.Mathlib.Omega.{arith}
 use Rattle.contents.proofs.Open.{tagged-inside}
 use Rattle.reader.proofs.Eights.{walk_no, outer_no, six_no, opened-to}
-use borrow.Author.Rules.{rules}
 use Rattle.reader.proofs.eight.read_opening.Goals as goal
 
 pub read_head-requires : goal.read_head-requires

@@ -1,6 +1,5 @@
 -- `empty_list` meets its contract: no field is present. Assumes nothing.
 use Rattle.reader.proofs.Lists.{empty-is}
-use borrow.Author.Rules.{rules}
 use Rattle.reader.proofs.fields.empty_list.Goals as goal
 
 pub returns : goal.returns

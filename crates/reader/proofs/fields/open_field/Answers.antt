@@ -1,6 +1,5 @@
 -- `open_field` meets its contract: 9 for its form, 11, 12, or the field's row and content. Assumes nothing.
 use Rattle.reader.proofs.FieldHeads.{field_no, field-form, field_unknown, field-version, field_order_lem, field_is}
-use borrow.Author.Rules.{rules}
 use Rattle.reader.proofs.fields.open_field.Goals as goal
 
 pub returns-then-form-ne5 : goal.returns-then-form-ne5

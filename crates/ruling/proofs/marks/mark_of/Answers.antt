@@ -1,8 +1,4 @@
 -- `ruling::marks::mark_of` meets its contract. The invariant: the mark is that of the tags from i on. Assumes nothing.
-use mathlib.Core.Path.{◌≡◌}
-use Prim.Native.Nat.{◌≤◌}
-use lib.ListN.{length, drop}
-use Rattle.ruling.specs.Ruling.{mark_of}
 use Rattle.ruling.proofs.Bits.{mark_begin, mark_fits, mark_more, mark_end}
 use borrow.Author.Rules.{rules}
 use Rattle.ruling.proofs.marks.mark_of.Goals as goal

@@ -3,8 +3,6 @@ use mathlib.Core.Path.{◌≡◌}
 use Prim.Native.Nat.{◌≤◌}
 use lib.ListN.{length, drop}
 use Rattle.ruling.specs.Ruling.{mark_of}
-use Rattle.ruling.proofs.Bits.{mark_begin, mark_fits, mark_more, mark_end}
-use borrow.Author.Rules.{rules}
 use Rattle.ruling.proofs.marks.mark_of.Given as goal
 
 abbrev pub invariant-loop-i : goal.invariant-loop-i

@@ -1,7 +1,6 @@
 -- `ruling::order::date_refusal` meets its contract: each check of `date_checks` in turn. Assumes nothing.
 use Rattle.ruling.specs.Ruling.{date_checks}
 use Rattle.ruling.proofs.First.{refuses, passes, none_left}
-use borrow.Author.Rules.{rules}
 use Rattle.ruling.proofs.order.date_refusal.Goals as goal
 
 pub returns-then-clock_refused : goal.returns-then-clock_refused

@@ -1,7 +1,6 @@
 -- `ruling::order::device_refusal` meets its contract: each check of `device_checks` in turn. Assumes nothing.
 use Rattle.ruling.specs.Ruling.{device_checks}
 use Rattle.ruling.proofs.First.{refuses, passes, none_left}
-use borrow.Author.Rules.{rules}
 use Rattle.ruling.proofs.order.device_refusal.Goals as goal
 
 pub returns-then-null_refused : goal.returns-then-null_refused

@@ -1,6 +1,5 @@
 -- `ruling::order::first_refusal` meets its contract: the first group that refuses. Assumes nothing.
 use Rattle.ruling.proofs.First.{first-shape, first_date, first-token, first_device}
-use borrow.Author.Rules.{rules}
 use Rattle.ruling.proofs.order.first_refusal.Goals as goal
 
 pub returns-then-shape-ne0 : goal.returns-then-shape-ne0

@@ -3,7 +3,6 @@ use mathlib.Core.Path.{ap}
 use mathlib.Core.Bool.{not}
 use Rattle.ruling.specs.Ruling.{shape_checks}
 use Rattle.ruling.proofs.First.{refuses, passes, none_left}
-use borrow.Author.Rules.{rules}
 use Rattle.ruling.proofs.order.shape_refusal.Goals as goal
 
 pub returns-then-not-known_purpose : goal.returns-then-not-known_purpose

@@ -1,7 +1,6 @@
 -- `ruling::order::token_refusal` meets its contract: each check of `token_checks` in turn. Assumes nothing.
 use Rattle.ruling.specs.Ruling.{token_checks}
 use Rattle.ruling.proofs.First.{refuses, passes, none_left}
-use borrow.Author.Rules.{rules}
 use Rattle.ruling.proofs.order.token_refusal.Goals as goal
 
 pub returns-then-auth_missing : goal.returns-then-auth_missing

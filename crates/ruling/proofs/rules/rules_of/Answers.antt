@@ -1,6 +1,5 @@
 -- `ruling::rules::rules_of` meets its contract: each tag by its row. Assumes nothing.
 use Rattle.ruling.proofs.TagRows.{tags_by_rows}
-use borrow.Author.Rules.{rules}
 use Rattle.ruling.proofs.rules.rules_of.Goals as goal
 
 pub returns : goal.returns

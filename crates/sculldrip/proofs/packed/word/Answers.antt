@@ -1,7 +1,6 @@
 -- `word` meets its contract: by whether the rest is capped. Assumes nothing.
 use borrow.Author.Tests.{lt-ltb, le-ltb}
 use Rattle.answer.specs.Answer.{pick}
-use borrow.Author.Rules.{rules}
 use Rattle.sculldrip.proofs.packed.word.Goals as goal
 
 pub returns-then-rest-gt72057594037927935 : goal.returns-then-rest-gt72057594037927935

@@ -1,7 +1,6 @@
 -- `shape::parts::content_inside` meets its contract: each arm is its kind's clause of `content_inside`. Assumes nothing.
 use mathlib.Core.Path.{refl}
 use Rattle.records.specs.Parts.{content_inside}
-use borrow.Author.Rules.{rules}
 use Rattle.shape.proofs.parts.content_inside.Goals as goal
 
 pub returns-in-Set : goal.returns-in-Set

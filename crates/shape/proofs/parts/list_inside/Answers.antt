@@ -1,8 +1,5 @@
 -- `shape::parts::list_inside` meets its contract. The invariant: every row passed is inside. Assumes nothing.
-use Prim.Native.Nat.{◌-◌}
-use Rattle.shape.proofs.Buffer.{SoFar, rows_begin, row-absent, row-outside, row_inside_lem, rows_end}
-use borrow.Author.Rules.{rules}
-use Rattle.schema.specs.Table.{row_count}
+use Rattle.shape.proofs.Buffer.{rows_begin, row-absent, row-outside, row_inside_lem, rows_end}
 use mathlib.Core.Path.{ap}
 use mathlib.Core.Bool.{not}
 use Rattle.shape.proofs.parts.list_inside.Goals as goal

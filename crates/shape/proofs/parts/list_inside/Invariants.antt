@@ -1,7 +1,6 @@
 -- `shape::parts::list_inside` meets its contract. The invariant: every row passed is inside. Assumes nothing.
 use Prim.Native.Nat.{◌-◌}
-use Rattle.shape.proofs.Buffer.{SoFar, rows_begin, row-absent, row-outside, row_inside_lem, rows_end}
-use borrow.Author.Rules.{rules}
+use Rattle.shape.proofs.Buffer.{SoFar}
 use Rattle.schema.specs.Table.{row_count}
 use Rattle.shape.proofs.parts.list_inside.Given as goal
 

@@ -1,6 +1,5 @@
 -- `shape::parts::parts_inside` meets its contract: the four tests of `parts_inside` in turn. Assumes nothing.
 use Rattle.shape.proofs.Buffer.{challenge-outside, unique-outside, software-outside, to-hardware}
-use borrow.Author.Rules.{rules}
 use Rattle.shape.proofs.parts.parts_inside.Goals as goal
 
 pub returns-then-not-part_inside : goal.returns-then-not-part_inside

@@ -1,6 +1,5 @@
 -- `shape::parts::root_inside` meets its contract: the tests of `root_inside` in turn. Assumes nothing.
 use Rattle.shape.proofs.Buffer.{key-outside, no_hash, with_hash}
-use borrow.Author.Rules.{rules}
 use Rattle.shape.proofs.parts.root_inside.Goals as goal
 
 pub returns-then-not-part_inside : goal.returns-then-not-part_inside

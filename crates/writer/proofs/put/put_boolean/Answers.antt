@@ -1,6 +1,5 @@
 -- `put_boolean` meets its contract: header and octet. Assumes nothing.
 use Rattle.writer.proofs.Puts.{boolean_yes, boolean_no}
-use borrow.Author.Rules.{rules}
 use Rattle.writer.proofs.put.put_boolean.Goals as goal
 
 pub returns-then-b : goal.returns-then-b

@@ -1,8 +1,5 @@
 -- `put_bytes` meets its contract. The invariant: the first k bytes are spliced in. Assumes nothing.
-use Prim.Native.Nat.{◌-◌, ◌≤◌}
-use mathlib.Core.Path.{◌≡◌, refl}
-use lib.ListN.{length, take}
-use Rattle.codec.specs.Octets.{splice}
+use mathlib.Core.Path.{refl}
 use Rattle.writer.proofs.Puts.{bytes_far, bytes_not, bytes_start, bytes_more, bytes_end}
 use borrow.Author.Rules.{rules}
 use Rattle.writer.proofs.put.put_bytes.Goals as goal

@@ -1,10 +1,8 @@
 -- `put_bytes` meets its contract. The invariant: the first k bytes are spliced in. Assumes nothing.
 use Prim.Native.Nat.{◌-◌, ◌≤◌}
-use mathlib.Core.Path.{◌≡◌, refl}
+use mathlib.Core.Path.{◌≡◌}
 use lib.ListN.{length, take}
 use Rattle.codec.specs.Octets.{splice}
-use Rattle.writer.proofs.Puts.{bytes_far, bytes_not, bytes_start, bytes_more, bytes_end}
-use borrow.Author.Rules.{rules}
 use Rattle.writer.proofs.put.put_bytes.Given as goal
 
 abbrev pub invariant-loop-k : goal.invariant-loop-k

@@ -1,6 +1,5 @@
 -- `put_enumerated` meets its contract: its octets are those of the INTEGER but for the first. Assumes nothing.
 use Rattle.writer.proofs.Puts.{enumerated_put, enumerated_not}
-use borrow.Author.Rules.{rules}
 use Rattle.writer.proofs.put.put_enumerated.Goals as goal
 
 pub returns-then-out-at : goal.returns-then-out-at

@@ -1,11 +1,8 @@
 -- `put_fields` meets its contract. The invariant: the fields of the rows passed are put. Assumes nothing.
-use Prim.Native.Nat.{◌-◌, ◌≤◌}
-use mathlib.Core.Path.{◌≡◌, refl}
-use lib.ListN.{length}
+use mathlib.Core.Path.{refl}
 use Rattle.sizes.proofs.Sizing.{set_value, root-value, plain_value_lem}
-use Rattle.writer.proofs.Puts.{Listed, field-number, fields_start, fields_more, fields_skip, fields_end}
+use Rattle.writer.proofs.Puts.{field-number, fields_start, fields_more, fields_skip, fields_end}
 use borrow.Author.Rules.{rules}
-use Rattle.schema.specs.Table.{row_count}
 use Rattle.writer.proofs.put.put_fields.Goals as goal
 
 pub loop-place-init : goal.loop-place-init

@@ -1,10 +1,8 @@
 -- `put_fields` meets its contract. The invariant: the fields of the rows passed are put. Assumes nothing.
 use Prim.Native.Nat.{◌-◌, ◌≤◌}
-use mathlib.Core.Path.{◌≡◌, refl}
+use mathlib.Core.Path.{◌≡◌}
 use lib.ListN.{length}
-use Rattle.sizes.proofs.Sizing.{set_value, root-value, plain_value_lem}
-use Rattle.writer.proofs.Puts.{Listed, field-number, fields_start, fields_more, fields_skip, fields_end}
-use borrow.Author.Rules.{rules}
+use Rattle.writer.proofs.Puts.{Listed}
 use Rattle.schema.specs.Table.{row_count}
 use Rattle.writer.proofs.put.put_fields.Given as goal
 

@@ -1,6 +1,5 @@
 -- `put_head` meets its contract: its pieces are put one after the other. Assumes nothing.
 use Rattle.writer.proofs.Puts.{head-put}
-use borrow.Author.Rules.{rules}
 use Rattle.writer.proofs.put.put_head.Goals as goal
 
 pub returns : goal.returns

@@ -1,6 +1,5 @@
 -- `put_header` meets its contract: with room for it, der's leaf refuses no such header. Assumes nothing.
 use Rattle.writer.proofs.Puts.{header-put, header_not}
-use borrow.Author.Rules.{rules}
 use Rattle.writer.proofs.put.put_header.Goals as goal
 
 pub returns-in-Next : goal.returns-in-Next

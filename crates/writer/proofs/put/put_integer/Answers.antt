@@ -1,6 +1,5 @@
 -- `put_integer` meets its contract: with room for it, der's leaf refuses no INTEGER. Assumes nothing.
 use Rattle.writer.proofs.Puts.{integer_put, integer_not}
-use borrow.Author.Rules.{rules}
 use Rattle.writer.proofs.put.put_integer.Goals as goal
 
 pub returns-in-Next : goal.returns-in-Next

@@ -1,6 +1,5 @@
 -- `put_list` meets its contract: header and fields. Assumes nothing.
 use Rattle.writer.proofs.Puts.{list_put}
-use borrow.Author.Rules.{rules}
 use Rattle.writer.proofs.put.put_list.Goals as goal
 
 pub returns : goal.returns

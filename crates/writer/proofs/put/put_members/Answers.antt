@@ -1,11 +1,6 @@
 -- `put_members` meets its contract. The invariant: the members before the i-th are put. Assumes nothing.
-use Prim.Native.Nat.{◌-◌, ◌≤◌}
-use mathlib.Core.Path.{◌≡◌, refl}
-use lib.ListN.{length, take}
-use Rattle.codec.specs.Integer.{integer_element}
-use Rattle.codec.specs.Element.{chain_octets}
+use mathlib.Core.Path.{refl}
 use Rattle.writer.proofs.Puts.{members-start, members_more, members-counted, members_all}
-use Rattle.writer.specs.Put.{Puts}
 use borrow.Author.Rules.{rules}
 use Rattle.writer.proofs.put.put_members.Goals as goal
 

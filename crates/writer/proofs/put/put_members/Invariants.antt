@@ -1,12 +1,10 @@
 -- `put_members` meets its contract. The invariant: the members before the i-th are put. Assumes nothing.
 use Prim.Native.Nat.{◌-◌, ◌≤◌}
-use mathlib.Core.Path.{◌≡◌, refl}
+use mathlib.Core.Path.{◌≡◌}
 use lib.ListN.{length, take}
 use Rattle.codec.specs.Integer.{integer_element}
 use Rattle.codec.specs.Element.{chain_octets}
-use Rattle.writer.proofs.Puts.{members-start, members_more, members-counted, members_all}
 use Rattle.writer.specs.Put.{Puts}
-use borrow.Author.Rules.{rules}
 use Rattle.writer.proofs.put.put_members.Given as goal
 
 abbrev pub invariant-loop-i : goal.invariant-loop-i

@@ -1,6 +1,5 @@
 -- `put_octet` meets its contract: a write of one octet is a store. Assumes nothing.
 use Rattle.writer.proofs.Puts.{octet-put, octet_not}
-use borrow.Author.Rules.{rules}
 use Rattle.writer.proofs.put.put_octet.Goals as goal
 
 pub returns-then-out-at : goal.returns-then-out-at

@@ -1,6 +1,5 @@
 -- `put_part` meets its contract: header and octets. Assumes nothing.
 use Rattle.writer.proofs.Puts.{octets-put}
-use borrow.Author.Rules.{rules}
 use Rattle.writer.proofs.put.put_part.Goals as goal
 
 pub returns : goal.returns

@@ -1,6 +1,5 @@
 -- `put_plain` meets its contract: one law of `Puts` for each arm. Assumes nothing.
 use Rattle.writer.proofs.Puts.{value_number32, value_number64, value-octets, value_null}
-use borrow.Author.Rules.{rules}
 use Rattle.writer.proofs.put.put_plain.Goals as goal
 
 pub returns-in-Number32 : goal.returns-in-Number32

@@ -1,6 +1,5 @@
 -- `put_root` meets its contract: header and content. Assumes nothing.
 use Rattle.writer.proofs.Puts.{root-put}
-use borrow.Author.Rules.{rules}
 use Rattle.writer.proofs.put.put_root.Goals as goal
 
 pub returns : goal.returns

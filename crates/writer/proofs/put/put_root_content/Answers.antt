@@ -1,6 +1,5 @@
 -- `put_root_content` meets its contract: key, locked and state, and the hash where there is one. Assumes nothing.
 use Rattle.writer.proofs.Puts.{root-hashed, root_plain}
-use borrow.Author.Rules.{rules}
 use Rattle.writer.proofs.put.put_root_content.Goals as goal
 
 pub returns-then-t : goal.returns-then-t

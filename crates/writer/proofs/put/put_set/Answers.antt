@@ -1,6 +1,5 @@
 -- `put_set` meets its contract: header and members. Assumes nothing.
 use Rattle.writer.proofs.Puts.{set-put}
-use borrow.Author.Rules.{rules}
 use Rattle.writer.proofs.put.put_set.Goals as goal
 
 pub returns : goal.returns
