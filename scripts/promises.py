@@ -10,7 +10,8 @@ A cell of these columns is – or items in backquotes, parted by commas:
   Case        `PROGRAM NAME`   a case that crates/PROGRAM runs, with * for any letters; or `PATH`, a file
   Edit        `CRATE/LABEL`    crates/CRATE/must-fail/LABEL.edit
 
-Nothing is written, with --check or without: the exit status is 1 where a name is missing. What no row cites, of must-fail
+Each statement of a specs/Statements.antt must have the theorem of its name in proofs/, declared as of that type. Nothing is
+written, with --check or without: the exit status is 1 where a name is missing. What no row cites, of must-fail
 edits, public functions and stated theorems, is told and is no fault.
 """
 import functools
@@ -62,9 +63,10 @@ def in_blocks(text, opens, declares):
 
 
 ANTT_TYPE = re.compile(r"\s*pub (?:record|data) ([^\s(:{]+)")
-ANTT_NAME = re.compile(r"\s*(?:(?:abbrev|unfoldable) )*pub ([^\s(:{]+) :")
-ANTT_LAW = re.compile(r"\s*pub ([^\s(:{]+) :")
-ANTT_CONSTRUCTOR = re.compile(r"\s+([\w′]+(?: [\w′]+)*) : ")
+LEVELS = r"(?: \{[^}]*\})*"  # as in `pub guard_case {ℓ} : ..`
+ANTT_NAME = re.compile(r"\s*(?:(?:abbrev|unfoldable) )*pub ([^\s(:{]+)%s :" % LEVELS)
+ANTT_LAW = re.compile(r"\s*pub ([^\s(:{]+)%s :(?: ([A-Z]\w*)$)?" % LEVELS)
+ANTT_CONSTRUCTOR = re.compile(r"\s+([\w']+(?: [\w']+)*) : ")
 
 
 def antt_line(line, block):
@@ -212,11 +214,36 @@ def single(items):
     return {"%s %s" % (crate, re.sub(r"\w+::", "", name)) for crate, *names in words for name in names}
 
 
+@functools.cache
+def laws_of(crate):
+    """What the crate's lemma files prove of a statement: SomeName to the names of what is declared as `pub some_name : SomeName`."""
+    laws = {}
+    for path in files("crates/%s/proofs/*.antt" % crate):
+        for line in re.sub("--.*", "", text_of(path)).split("\n"):
+            law = ANTT_LAW.match(line.rstrip())
+            if law and law[2]:
+                laws.setdefault(law[2], set()).add(law[1])
+    return laws
+
+
+def same_words(law, statement):
+    """Whether a theorem has its statement's name: some_name or some-name for SomeName."""
+    words = "_".join(re.findall(r"[A-Z][a-z]*|\d+", statement)).lower()
+    return re.sub("-", "_", law) == words
+
+
 def stated():
-    """The theorems of each specs/Statements.antt: for SomeName, some-name."""
+    """Each theorem that a crate's specs/Statements.antt states: the crate, the statement and the names of what proves it."""
     for path in files("crates/*/specs/Statements.antt"):
+        crate = path.split("/")[1]
         for name in re.findall(r"^abbrev pub ([A-Z]\w+) : Type [01]$", text_of(path), re.M):
-            yield "%s %s" % (path.split("/")[1], "-".join(re.findall(r"[A-Z][a-z]*|\d+", name)).lower())
+            yield crate, name, {law for law in laws_of(crate).get(name, ()) if same_words(law, name)}
+
+
+def unproved():
+    """The statements of which no lemma file has the theorem of that name."""
+    return ["crates/%s/specs/Statements.antt: proofs/ has no theorem of the name and type %s" % (crate, name)
+            for crate, name, laws in stated() if not laws]
 
 
 def uncited(cited):
@@ -224,7 +251,7 @@ def uncited(cited):
     public = {"%s %s" % (path.split("/")[1], name) for path in files("crates/*/src/*.rt")
               for name in re.findall(r'^\s*pub (?:extern "C" )?fn (\w+)', text_of(path), re.M)}
     return [("must-fail edit", edits - cited["Edit"]), ("public function", public - single(cited["Contract"])),
-            ("theorem", set(stated()) - single(cited["Theorem"]))]
+            ("theorem", {"%s %s" % (crate, law) for crate, _, laws in stated() for law in laws} - single(cited["Theorem"]))]
 
 
 def main():
@@ -232,7 +259,7 @@ def main():
     for what, names in uncited(cited):
         for name in sorted(names):
             print("promises.py: no row of %s cites the %s %s" % (PROMISES, what, name))
-    faults += readme() + decisions()
+    faults += readme() + decisions() + unproved()
     if faults:
         sys.exit("\n".join("promises.py: " + fault for fault in faults))
 
