@@ -1,7 +1,12 @@
-// Compares readers on the files named: each must accept each file and say the same, and then each is timed. Prints the
-// tables of bench/RESULTS.md. Built and run by bench/peers/run, as: compare DIRECTORY FILE.., the directory holding the
-// readers' libraries; one that is not there is left out. Rounds of all readers take turns, so that other work on the
-// machine disturbs all alike, and the least round of each is printed.
+// Compares readers on the files named. Built and run by bench/peers/run; the directory holds the readers' libraries, and one
+// that is not there is left out.
+//
+//   compare check DIRECTORY FILE..   each reader must accept each file and say the same; a line for each file
+//   compare time DIRECTORY FILE..    READER|FILE|BYTES|ELEMENTS|KIND|NS for each reader and file
+//
+// Rounds of all readers take turns, so that other work on the machine disturbs all alike, and the least round of each is
+// printed. Where a process's stack happens to lie moves the figures of short reads: the script takes the median of many.
+#include "../../include/sculldrip.h"
 #include "record.h"
 #include <dlfcn.h>
 #include <stdio.h>
@@ -10,25 +15,30 @@
 #include <time.h>
 #include <unistd.h>
 
-enum { ROUNDS = 60, ROUND_NS = 3000000, MOST_FILES = 8, READERS = 6, SCULLDRIP = 0, FLOOR = 1, FIRST_PEER = 2 };
+enum { ROUNDS = 20, ROUND_NS = 2000000, MOST_FILES = 8, READERS = 7, SCULLDRIP = 0, FLOOR = 1, FIRST_PEER = 3 };
 
 typedef struct {
-    const char *name, *library;
+    const char *name, *library, *kind;
     bool (*read)(const uint8_t *, size_t, record *);
     uint64_t (*sum)(const uint8_t *, size_t, summing);
     double ns[MOST_FILES];
 } reader;
 typedef struct { const char *name; uint8_t bytes[8193]; size_t len, elements; uint64_t sum; } input;
 
-static reader readers[READERS] = {{.name = "Sculldrip", .library = "sculldrip"},
-                                  {.name = "floor: plain C", .library = "floor"},
-                                  {.name = "asn1 (Rust)", .library = "asn1"},
-                                  {.name = "der-parser (Rust)", .library = "der_parser"},
-                                  {.name = "OpenSSL templates", .library = "openssl"},
-                                  {.name = "libtasn1", .library = "libtasn1"}};
+static reader readers[READERS] = {{.name = "Sculldrip", .library = "sculldrip", .kind = "sculldrip"},
+                                  {.name = "floor: plain C, gcc", .library = "floor", .kind = "floor"},
+                                  {.name = "floor: plain C, clang", .library = "floor_clang", .kind = "floor"},
+                                  {.name = "asn1 (Rust)", .library = "asn1", .kind = "peer"},
+                                  {.name = "der-parser (Rust)", .library = "der_parser", .kind = "peer"},
+                                  {.name = "OpenSSL templates", .library = "openssl", .kind = "peer"},
+                                  {.name = "libtasn1", .library = "libtasn1", .kind = "peer"}};
+static uint64_t (*read_itself)(const uint8_t *, size_t, uint64_t *, size_t);  // sculldrip_read, of the library
 static input inputs[MOST_FILES];
 static record room;  // what is read into
+static uint64_t image[SCULLDRIP_IMAGE_WORDS];
 static int files;
+
+static bool is_there(int reader) { return readers[reader].sum != NULL; }
 
 static void stop(const char *what, const char *name) {
     fprintf(stderr, "compare: %s: %s\n", name, what);
@@ -99,11 +109,13 @@ static void load_readers(const char *directory) {
         if (access(path, R_OK) != 0) continue;
         void *library = dlopen(path, RTLD_NOW | RTLD_LOCAL);
         if (!library) stop(dlerror(), path);
-        *(void **)&readers[r].read = dlsym(library, "peer_read");
         *(void **)&readers[r].sum = dlsym(library, "peer_sum");
-        if (!readers[r].read || !readers[r].sum) stop("lacks peer_read or peer_sum", path);
+        *(void **)&readers[r].read = dlsym(library, "peer_read");
+        if (r == SCULLDRIP) *(void **)&read_itself = dlsym(library, "sculldrip_read");
+        if (!readers[r].sum || !(r == SCULLDRIP ? read_itself != NULL : readers[r].read != NULL))
+            stop("lacks peer_sum, or peer_read or sculldrip_read", path);
     }
-    if (!readers[SCULLDRIP].read || !readers[FLOOR].read) stop("lacks Sculldrip or the floor", directory);
+    if (!is_there(SCULLDRIP) || !is_there(FLOOR)) stop("lacks Sculldrip or the floor", directory);
 }
 
 static void load_input(const char *name, input *in) {
@@ -118,7 +130,7 @@ static void load_input(const char *name, input *in) {
 }
 
 // Every reader says of the file what Sculldrip says, and so of the file with any one bit changed that Sculldrip accepts.
-// The floor must refuse what Sculldrip refuses too; a peer's library need not, since it knows none of document 01's limits.
+// The floors must refuse what Sculldrip refuses too; a peer's library need not, since it knows none of document 01's limits.
 static void compare(input *in) {
     size_t accepted = 0;
     for (size_t at = 0; at <= 8 * in->len; at++) {
@@ -126,7 +138,7 @@ static void compare(input *in) {
         uint64_t sum = readers[SCULLDRIP].sum(in->bytes, in->len, sum_of);
         accepted += sum != 0;
         for (int r = FLOOR; r < READERS; r++) {
-            if (!readers[r].read || (!sum && r != FLOOR)) continue;
+            if (!is_there(r) || (!sum && r >= FIRST_PEER)) continue;
             if (readers[r].sum(in->bytes, in->len, sum_of) != sum) {
                 fprintf(stderr, "compare: %s, change %zu: %s does not say what Sculldrip says\n", in->name, at, readers[r].name);
                 exit(1);
@@ -146,89 +158,56 @@ static double now(void) {
     return (double)t.tv_sec * 1e9 + (double)t.tv_nsec;
 }
 
-static double one_round(const reader *r, const input *in, size_t turns) {
+// Sculldrip's are calls of sculldrip_read itself, without a function around it.
+static double one_round(int r, const input *in, size_t turns) {
     size_t accepted = 0;
     double start = now();
-    for (size_t i = 0; i < turns; i++) {
-        USED(in->bytes);
-        accepted += r->read(in->bytes, in->len, &room);
-    }
+    if (r == SCULLDRIP)
+        for (size_t i = 0; i < turns; i++) {
+            USED(in->bytes);
+            accepted += sculldrip_number(read_itself(in->bytes, in->len, image, SCULLDRIP_IMAGE_WORDS)) == 0;
+        }
+    else
+        for (size_t i = 0; i < turns; i++) {
+            USED(in->bytes);
+            accepted += readers[r].read(in->bytes, in->len, &room);
+        }
     double took = (now() - start) / (double)turns;
-    if (accepted != turns) stop("refused while timed", r->name);
+    if (accepted != turns) stop("refused while timed", readers[r].name);
     return took;
 }
 
 static void measure(int file) {
     size_t turns[READERS];
     for (int r = 0; r < READERS; r++) {
-        if (!readers[r].read) continue;
+        if (!is_there(r)) continue;
         readers[r].ns[file] = 1e18;
-        turns[r] = 1 + (size_t)(ROUND_NS / one_round(&readers[r], &inputs[file], 20));
+        turns[r] = 1 + (size_t)(ROUND_NS / one_round(r, &inputs[file], 20));
     }
     for (int round = 0; round < ROUNDS; round++)
         for (int r = 0; r < READERS; r++) {
-            if (!readers[r].read) continue;
-            double took = one_round(&readers[r], &inputs[file], turns[r]);
+            if (!is_there(r)) continue;
+            double took = one_round(r, &inputs[file], turns[r]);
             if (took < readers[r].ns[file]) readers[r].ns[file] = took;
         }
 }
 
-static double fastest_peer(int file) {
-    double best = 0;
-    for (int r = FIRST_PEER; r < READERS; r++)
-        if (readers[r].read && (best == 0 || readers[r].ns[file] < best)) best = readers[r].ns[file];
-    return best;
-}
-
-static void print_times(void) {
-    printf("\n## Time of a read\n\nns, least of %d rounds; then the ratio to the fastest peer library, and to the floor.\n\n| Reader |",
-           ROUNDS);
-    for (int f = 0; f < files; f++) printf(" %s, %zu bytes | to fastest peer | to floor |", inputs[f].name, inputs[f].len);
-    printf("\n|---|");
-    for (int f = 0; f < files; f++) printf("--:|--:|--:|");
-    printf("\n");
-    for (int r = 0; r < READERS; r++) {
-        if (!readers[r].read) continue;
-        printf("| %s |", readers[r].name);
-        for (int f = 0; f < files; f++) {
-            double ns = readers[r].ns[f], peer = fastest_peer(f);
-            printf(" %.0f |", ns);
-            if (peer > 0) printf(" %.2f |", ns / peer);
-            else printf(" - |");
-            printf(" %.2f |", ns / readers[FLOOR].ns[f]);
-        }
-        printf("\n");
-    }
-}
-
-static void print_growth(void) {
-    printf("\n## How it grows\n\nns a byte / ns an element; then how many times as long the last file takes as the first,"
-           " which has %.0f times the bytes and %.1f times the elements.\n\n| Reader |",
-           (double)inputs[files - 1].len / (double)inputs[0].len, (double)inputs[files - 1].elements / (double)inputs[0].elements);
-    for (int f = 0; f < files; f++) printf(" %zu bytes, %zu elements |", inputs[f].len, inputs[f].elements);
-    printf(" last / first |\n|---|");
-    for (int f = 0; f <= files; f++) printf("--:|");
-    printf("\n");
-    for (int r = 0; r < READERS; r++) {
-        if (!readers[r].read) continue;
-        printf("| %s |", readers[r].name);
-        for (int f = 0; f < files; f++)
-            printf(" %.2f / %.1f |", readers[r].ns[f] / (double)inputs[f].len, readers[r].ns[f] / (double)inputs[f].elements);
-        printf(" %.1f |\n", readers[r].ns[files - 1] / readers[r].ns[0]);
-    }
+static void print_figures(void) {
+    for (int f = 0; f < files; f++)
+        for (int r = 0; r < READERS; r++)
+            if (is_there(r))
+                printf("%s|%s|%zu|%zu|%s|%.2f\n", readers[r].name, inputs[f].name, inputs[f].len, inputs[f].elements,
+                       readers[r].kind, readers[r].ns[f]);
 }
 
 int main(int count, char **names) {
-    if (count < 3 || count - 2 > MOST_FILES) stop("needs a directory and one to eight files", names[0]);
-    load_readers(names[1]);
-    files = count - 2;
-    printf("## What was read\n\n");
-    for (int f = 0; f < files; f++) {
-        load_input(names[f + 2], &inputs[f]);
-        compare(&inputs[f]);
-    }
-    for (int f = 0; f < files; f++) measure(f);
-    print_times();
-    print_growth();
+    bool is_timing = count > 1 && !strcmp(names[1], "time");
+    if (count < 4 || count - 3 > MOST_FILES || (!is_timing && strcmp(names[1], "check")))
+        stop("needs check or time, a directory and one to eight files", names[0]);
+    load_readers(names[2]);
+    files = count - 3;
+    for (int f = 0; f < files; f++) load_input(names[f + 3], &inputs[f]);
+    for (int f = 0; f < files; f++) is_timing ? measure(f) : compare(&inputs[f]);
+    if (is_timing) print_figures();
     return 0;
 }

@@ -26,8 +26,8 @@ typedef struct { security attestation, keymint; part challenge, unique; field_li
 typedef uint64_t (*summing)(const record *said, const uint8_t *base);
 
 // Each reader's library has these two. The first is timed: a read of all fields into a plain struct, the caller's record or
-// a local one of the reader's own type, and giving back what was taken for it. The second reads in the same way and answers
-// the sum of what was said; 0 where it is refused.
+// a local one of the reader's own type, and giving back what was taken for it; in Sculldrip's place sculldrip_read itself is.
+// The second reads in the same way and answers the sum of what was said; 0 where it is refused.
 bool peer_read(const uint8_t *bytes, size_t len, record *said);
 uint64_t peer_sum(const uint8_t *bytes, size_t len, summing sum);
 

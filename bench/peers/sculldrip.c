@@ -1,14 +1,6 @@
-// Sculldrip's proved read, as a caller has it: an image of words.
+// Sculldrip's proved read, as a caller has it: an image of words, asked by the header's functions for the sum.
 #include "../../include/sculldrip.h"
 #include "record.h"
-
-bool peer_read(const uint8_t *bytes, size_t len, record *said) {
-    uint64_t image[SCULLDRIP_IMAGE_WORDS];
-    (void)said;
-    uint64_t answer = sculldrip_read(bytes, len, image, SCULLDRIP_IMAGE_WORDS);
-    USED(image);
-    return sculldrip_number(answer) == 0;
-}
 
 static part part_of(struct sculldrip_part from) { return (part){from.start, from.length}; }
 
