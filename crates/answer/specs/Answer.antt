@@ -1,6 +1,8 @@
 -- What every reader, writer and ruling answers: a value, or a refusal with its number and place (document 01, "Numbers
 -- of the reader and writer"). The order of refusals is the nesting of `guard` and `bind`, and nothing else.
-use Rattle.std.specs.Prelude.{Bool, true, false, ℕ}
+use Rattle.std.specs.Prelude.{Bool, true, false, ℕ, Result, Ok, Err}
+use Rattle.answer.specs.declared.Refused.{Refused}
+use Rattle.answer.specs.Refusal.{number_of}
 
 pub data Answer (A : Type 0) : Type 0 where
   got : A → Answer A
@@ -25,3 +27,8 @@ pick false a b = b
 unfoldable pub map_answer : {A B : Type 0} → (A → B) → Answer A → Answer B
 map_answer f (got a) = got (f a)
 map_answer f (refused number place) = refused number place
+
+-- what a function of the code answers: its value, seen as f sees it, or the number and the place of its refusal
+abbrev pub answer_of : {T A : Type 0} → (T → A) → Result T Refused → Answer A
+answer_of f (Ok a) = got (f a)
+answer_of f (Err r) = refused (number_of r.0) r.1

@@ -1,5 +1,6 @@
 -- Document 01, "Numbers of the reader and writer": a name for each refusal's number, as in src/lib.rt.
 use Rattle.std.specs.Prelude.{ℕ}
+use Rattle.answer.specs.declared.Refusal.{Refusal}
 
 -- over the limit of bytes
 abbrev pub too_long : ℕ
@@ -170,3 +171,47 @@ origin_not_generated = 55
 -- a lent image, request, permit or part has too few words
 abbrev pub short_image : ℕ
 short_image = 200
+
+-- the number of a refusal of the code
+abbrev pub number_of : Refusal → ℕ
+number_of Refusal.TooLong = too_long
+number_of Refusal.RunsOut = runs_out
+number_of Refusal.BadIdentifier = bad_identifier
+number_of Refusal.BadLength = bad_length
+number_of Refusal.TooDeep = too_deep
+number_of Refusal.TooManyElements = too_many_elements
+number_of Refusal.SpareBytes = spare_bytes
+number_of Refusal.UnknownVersion = unknown_version
+number_of Refusal.WrongElement = wrong_element
+number_of Refusal.BadContent = bad_content
+number_of Refusal.NotInVersion = not_in_version
+number_of Refusal.FieldOrder = field_order
+number_of Refusal.MemberOrder = member_order
+number_of Refusal.TooManyMembers = too_many_members
+number_of Refusal.IllShaped = ill_shaped
+number_of Refusal.OutputShort = output_short
+number_of Refusal.EncodingTooLong = encoding_too_long
+number_of Refusal.PurposeUnknown = purpose_unknown
+number_of Refusal.PurposeNotAllowed = purpose_not_allowed
+number_of Refusal.AlgorithmUnfit = algorithm_unfit
+number_of Refusal.PaddingNotAllowed = padding_not_allowed
+number_of Refusal.DigestNotAllowed = digest_not_allowed
+number_of Refusal.KeyTooSmall = key_too_small
+number_of Refusal.ClockBelowFloor = clock_below_floor
+number_of Refusal.NotYetActive = not_yet_active
+number_of Refusal.Expired = expired
+number_of Refusal.NoAuthRule = no_auth_rule
+number_of Refusal.TokenUnfit = token_unfit
+number_of Refusal.TokenNotFresh = token_not_fresh
+number_of Refusal.DeviceLocked = device_locked
+number_of Refusal.UserNotPresent = user_not_present
+number_of Refusal.NotConfirmed = not_confirmed
+number_of Refusal.EarlyBootOver = early_boot_is_over
+number_of Refusal.UsedUp = used_up
+number_of Refusal.ChallengeDiffers = challenge_differs
+number_of Refusal.SoftwareLevel = software_level
+number_of Refusal.NoRootOfTrust = no_root_of_trust
+number_of Refusal.BootUnlocked = boot_unlocked
+number_of Refusal.BootNotVerified = boot_not_verified
+number_of Refusal.OriginNotGenerated = origin_not_generated
+number_of Refusal.ShortImage = short_image
