@@ -1,18 +1,18 @@
 // The schema's table (document 01, "KeyDescription"): 42 rows in ascending number, each a field's number, its kind and
-// the first and last version that hold it. A row is named by its place in the table; 42 stands for none.
+// the first and last version that hold it. A row is named by its place in the table.
 #![tactic(auto)]
 
 pub mod version;
 
-ghost use Rattle.std.specs.Prelude.{◌≡◌};
-ghost use Rattle.schema.specs.Table.{rows, row_at, index_of, held_in};
-ghost use Rattle.schema.specs.Rows.{of_row};
+ghost use Rattle.std.specs.Prelude.{◌≡◌, ◌<◌, IfSome};
+ghost use Rattle.schema.specs.Table.{rows, row_at, row_count, index_of, held_in};
+ghost use Rattle.schema.specs.Rows.{of_row, place_of};
 
-// How many rows the table has; as a row, none.
+// How many rows the table has.
 pub const ROWS: usize = 42;
 
 // How a field's content is read: document 01's kinds.
-#[derive(Clone, Copy)]
+#[derive(Clone, Copy, Debug, PartialEq, Eq)]
 pub enum Kind {
     Set,
     Number32,
@@ -22,7 +22,7 @@ pub enum Kind {
     Root,
 }
 
-#[derive(Clone, Copy)]
+#[derive(Clone, Copy, Debug, PartialEq, Eq)]
 pub struct Row {
     pub number: usize,
     pub kind: Kind,
@@ -41,54 +41,55 @@ fn make(number: usize, kind: Kind, first: u32, last: u32) -> Row
     }
 }
 
-// The place in the table of a field number, or ROWS.
-pub fn row_of(number: usize) -> usize
-    ensures { result ≡ index_of rows number }
+// The place in the table of a field number, where a row has it.
+pub fn row_of(number: usize) -> Option<usize>
+    ensures is { place_of result ≡ index_of rows number }
+    ensures inside { IfSome result (λ k. k < row_count) }
 {
     match number {
-        1 => 0,
-        2 => 1,
-        3 => 2,
-        5 => 3,
-        6 => 4,
-        10 => 5,
-        200 => 6,
-        203 => 7,
-        303 => 8,
-        305 => 9,
-        400 => 10,
-        401 => 11,
-        402 => 12,
-        405 => 13,
-        503 => 14,
-        504 => 15,
-        505 => 16,
-        506 => 17,
-        507 => 18,
-        508 => 19,
-        509 => 20,
-        600 => 21,
-        601 => 22,
-        701 => 23,
-        702 => 24,
-        703 => 25,
-        704 => 26,
-        705 => 27,
-        706 => 28,
-        709 => 29,
-        710 => 30,
-        711 => 31,
-        712 => 32,
-        713 => 33,
-        714 => 34,
-        715 => 35,
-        716 => 36,
-        717 => 37,
-        718 => 38,
-        719 => 39,
-        720 => 40,
-        723 => 41,
-        _ => ROWS,
+        1 => Some(0),
+        2 => Some(1),
+        3 => Some(2),
+        5 => Some(3),
+        6 => Some(4),
+        10 => Some(5),
+        200 => Some(6),
+        203 => Some(7),
+        303 => Some(8),
+        305 => Some(9),
+        400 => Some(10),
+        401 => Some(11),
+        402 => Some(12),
+        405 => Some(13),
+        503 => Some(14),
+        504 => Some(15),
+        505 => Some(16),
+        506 => Some(17),
+        507 => Some(18),
+        508 => Some(19),
+        509 => Some(20),
+        600 => Some(21),
+        601 => Some(22),
+        701 => Some(23),
+        702 => Some(24),
+        703 => Some(25),
+        704 => Some(26),
+        705 => Some(27),
+        706 => Some(28),
+        709 => Some(29),
+        710 => Some(30),
+        711 => Some(31),
+        712 => Some(32),
+        713 => Some(33),
+        714 => Some(34),
+        715 => Some(35),
+        716 => Some(36),
+        717 => Some(37),
+        718 => Some(38),
+        719 => Some(39),
+        720 => Some(40),
+        723 => Some(41),
+        _ => None,
     }
 }
 
@@ -147,8 +148,5 @@ pub fn row_at(place: usize) -> Row
 pub fn held(version: u32, r: Row) -> bool
     ensures { result ≡ held_in version (of_row r) }
 {
-    if version < r.first {
-        return false;
-    }
-    version <= r.last
+    r.first <= version && version <= r.last
 }

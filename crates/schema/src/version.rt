@@ -6,18 +6,12 @@ ghost use Rattle.schema.specs.Table.{known_version, level_top};
 pub fn known_version(version: u64) -> bool
     ensures { result ≡ known_version version }
 {
-    match version {
-        1 | 2 | 3 | 4 | 100 | 200 | 300 => true,
-        _ => false,
-    }
+    matches!(version, 1 | 2 | 3 | 4 | 100 | 200 | 300)
 }
 
 // StrongBox where the version's schema prints it.
 pub fn level_top(version: u32) -> u64
     ensures { result ≡ level_top version }
 {
-    if 3 <= version {
-        return 2;
-    }
-    1
+    if 3 <= version { 2 } else { 1 }
 }

@@ -5,5 +5,5 @@ use Rattle.schema.proofs.version.level_top.Goals as goal
 pub returns-then-version-ge3 : goal.returns-then-version-ge3
 returns-then-version-ge3 c = search top_two
 
-pub returns : goal.returns
-returns c = search top_one
+pub returns-else-version-ge3 : goal.returns-else-version-ge3
+returns-else-version-ge3 c = search top_one
