@@ -1,3 +1,4 @@
 pub mod Logic
 pub mod Answer
 pub mod Sentences
+pub mod Results

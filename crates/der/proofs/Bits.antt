@@ -2,9 +2,9 @@
 -- definitions' terms (`tests`). Assumes nothing.
 use mathlib.Core.Path.{◌≡◌, refl, sym, ◌∙◌}
 use mathlib.Core.Bool.{true, false}
-use mathlib.Core.List.{List}
+use mathlib.Core.List.{List, [], ◌∷◌}
 use Prim.Native.Nat.{ℕ, ◌+◌, ◌*◌, ◌%◌, ◌^◌, ◌<◌, ◌≤◌}
-use native.Mathlib.Nat.{mod-eq_of_lt}
+use native.Mathlib.Nat.{mod-eq_of_lt, le_refl}
 use native.Mathlib.Numerals.{add-one}
 use native.Mathlib.Omega.{arith}
 use mir.Val.{Fits}
@@ -56,6 +56,13 @@ module _ {A : Type 0} (p e : ℕ) (s : List ℕ) (k : ℕ → ℕ → List ℕ �
   pub octet-none : e ≤ p → octet p (slice p e s) k ≡ refused 2 p
   unfolding octet
   octet-none h = rw (drop_of_length-le (take e s) {i = p} (omega (arith, length-take e s))) refl
+
+-- all that is left of s: the octet at p and the rest, or nothing
+pub rest_cons : (s : List ℕ) (p : ℕ) → p < length s → slice p (length s) s ≡ get_or s p 0 ∷ slice (p + 1) (length s) s
+rest_cons s p h = slice-cons p (length s) s 0 h (le_refl _) ∙ rw add-one refl
+
+pub rest_none : (s : List ℕ) (p : ℕ) → length s ≤ p → slice p (length s) s ≡ []
+rest_none s p h = drop_of_length-le (take (length s) s) {i = p} (omega (arith, length-take (length s) s))
 
 -- the tests of the definitions, from what the code's branches know
 pub ruleset tests = (le-ltb, lt-ltb, le-leb, lt-leb, eq-eqb, ne_eqb, ones, not_ones, low5, join7, octet_at, octet-none)

@@ -1,6 +1,6 @@
 -- What the walk answers, in plain variables: one law for each answer of an element, of a run and of the whole.
 -- The count goes along in the code and is added up in the tree (`shift`). Assumes nothing.
-use mathlib.Core.Path.{◌≡◌, refl, ap, sym, subst, ◌∙◌}
+use mathlib.Core.Path.{◌≡◌, refl, ap, sym, ◌∙◌}
 use mathlib.Core.Bool.{true, false}
 use mathlib.Core.List.{List, []}
 use Prim.Native.Nat.{ℕ, zero, suc, ◌+◌, ◌-◌, ◌%◌, ◌<◌, ◌≤◌}
@@ -14,15 +14,12 @@ use borrow.Author.Tests.{lt-ltb, le-ltb, eq-eqb, ne_eqb, le-leb, lt-leb}
 use Rattle.answer.specs.Answer.{Answer, got, refused, guard, bind, pick}
 use Rattle.answer.proofs.Answer.{got_inj, refused-got, refused_as}
 use Rattle.codec.specs.Octets.{Taken, taken}
-use Rattle.codec.specs.Header.{Identifier, identifier, holds, read_header}
+use Rattle.codec.specs.Header.{Identifier, identifier, header, holds, read_header}
 use Rattle.codec.specs.Element.{exactly}
 use Rattle.codec.specs.Tree.{Node, Nodes, node, and, nodes, all_nodes, run, walk_element, first_pass}
 use Rattle.codec.proofs.Octets.{same_taken}
 use Rattle.codec.proofs.Tree.{run_none, run_step}
-use Rattle.der.specs.Header.{of_header, HeaderInside}
-use Rattle.der.specs.Walk.{of_step, of_run, counted, summed, node_count, StepInside, StepAt}
-use Rattle.der.specs.declared.header.Header.{Header}
-use Rattle.der.specs.declared.walk.Step.{Step}
+use Rattle.der.specs.Walk.{counted, summed, node_count}
 
 -- ---- an element
 
@@ -44,14 +41,26 @@ front_part s b end z fit h =
     sym (drop_at (take b l) (take z (drop b l)) b (length-take-le b l (omega (arith, length-take end s))))
     ∙ rw (← take-add b z l, take-take (b + z) end s h) refl
 
+-- a holder's own bytes, from a place on
+pub holder_part : (s h : List ℕ) (x a : ℕ) → h ≡ take x s → slice a (length h) h ≡ slice a x s
+holder_part s h x a e = rw (take-length h, e) refl
+
+-- a law of a holder's own bytes is one of their part of all bytes
+pub held : (s : List ℕ) (b x : ℕ) (A : Answer ℕ) (R : ℕ → List ℕ → Answer ℕ) → x ≤ length s
+    → ((f : ℕ) → length (take x s) - b ≤ f → A ≡ R f (slice b (length (take x s)) (take x s))) → (g : ℕ) → x - b ≤ g → A ≡ R g (slice b x s)
+held s b x A R l h g e = rw (holder_part s (take x s) x b refl) at (h g (omega (arith, length-take-le x s l)))
+
 -- what a holder's run answers is what the holder answers
-run_as_step : (s : List ℕ) (end at met x : ℕ) (i : Identifier) (c : List ℕ) (M : Answer Nodes) (out : Step) → of_run out ≡ summed (met + 1) M → StepAt x out
-    → of_step s end out ≡ counted met (bind M (λ ts. got (taken (node at i c ts) x (slice x end s))))
-unfolding bind nodes
-run_as_step s end at met x i c (got ts) (Step.Past y m) e st = rw st (same_taken _ _ _ _ _ (got_inj e ∙ omega arith) refl)
-run_as_step s end at met x i c (refused k p) (Step.Refused k₂ p₂) e st = refused_as e
-run_as_step s end at met x i c (got ts) (Step.Refused k p) e st = absurd (refused-got e)
-run_as_step s end at met x i c (refused k p) (Step.Past y m) e st = absurd (refused-got (sym e))
+module _ (s : List ℕ) (end at met x : ℕ) (i : Identifier) (c : List ℕ) where
+  run_as_step : (m : ℕ) (M : Answer Nodes) → got m ≡ summed (met + 1) M → got (taken m x (slice x end s)) ≡ counted met (bind M (λ ts. got (taken (node at i c ts) x (slice x end s))))
+  unfolding bind nodes
+  run_as_step m (got ts) e = same_taken _ _ _ _ _ (got_inj e ∙ omega arith) refl
+  run_as_step m (refused k p) e = absurd (refused-got (sym e))
+
+  no_run_as_step : (k p : ℕ) (M : Answer Nodes) → refused k p ≡ summed (met + 1) M → refused k p ≡ counted met (bind M (λ ts. got (taken (node at i c ts) x (slice x end s))))
+  unfolding bind nodes
+  no_run_as_step k p (got ts) e = absurd (refused-got e)
+  no_run_as_step k p (refused k₂ p₂) e = refused_as e
 
 module _ (s : List ℕ) (most end at met : ℕ) where
   pub element_deep : (d : ℕ) → d ≡ 0 → refused 5 at ≡ counted met (walk_element most d met at (slice at end s))
@@ -64,36 +73,36 @@ module _ (s : List ℕ) (most end at met : ℕ) where
   element_many zero e h = absurd (e refl)
   element_many (suc d) e h = simp (le-ltb _ _ h)
 
-  pub element_no : (d k p : ℕ) (r : Header) → (d ≡ 0 → ⊥) → met < most → of_header s end r ≡ read_header at (slice at end s) → r ≡ Header.Refused k p
-      → refused k p ≡ counted met (walk_element most d met at (slice at end s))
+  pub element_no : (d k p : ℕ) → (d ≡ 0 → ⊥) → met < most → refused k p ≡ read_header at (slice at end s) → refused k p ≡ counted met (walk_element most d met at (slice at end s))
   unfolding walk_element guard bind
-  element_no zero k p r e h q w = absurd (e refl)
-  element_no (suc d) k p r e h q w = simp (lt-ltb _ _ h, ← q, w)
+  element_no zero k p e h q = absurd (e refl)
+  element_no (suc d) k p e h q = simp (lt-ltb _ _ h, ← q)
 
-  module _ (f m z b : ℕ) (r : Header) where
-    pub element_flat : (d : ℕ) → (d ≡ 0 → ⊥) → met < most → of_header s end r ≡ read_header at (slice at end s) → r ≡ Header.Is f m z b → f % 2 ≡ 0
-        → got (taken (met + 1) (b + z) (slice (b + z) end s)) ≡ counted met (walk_element most d met at (slice at end s))
+  module _ (f m z b : ℕ) (q : got (taken (header (identifier f m) z) b (slice b end s)) ≡ read_header at (slice at end s)) where
+    pub element_flat : (d : ℕ) → (d ≡ 0 → ⊥) → met < most → f % 2 ≡ 0 → got (taken (met + 1) (b + z) (slice (b + z) end s)) ≡ counted met (walk_element most d met at (slice at end s))
     unfolding walk_element guard bind pick nodes all_nodes
-    element_flat zero e h q w o = absurd (e refl)
-    element_flat (suc d) e h q w o = simp (lt-ltb _ _ h, ← q, w, flat f m o, rest_part)
+    element_flat zero e h o = absurd (e refl)
+    element_flat (suc d) e h o = simp (lt-ltb _ _ h, ← q, flat f m o, rest_part)
 
-    pub element-run : (d : ℕ) (out : Step) → end ≤ length s → (d ≡ 0 → ⊥) → met < most → HeaderInside at end r → of_header s end r ≡ read_header at (slice at end s) → r ≡ Header.Is f m z b → (f % 2 ≡ 0 → ⊥)
-        → ((g : ℕ) → b + z - b ≤ g → of_run out ≡ summed (met + 1) (run (walk_element most (d - 1)) g (met + 1) b (slice b (b + z) s))) → StepAt (b + z) out
-        → of_step s end out ≡ counted met (walk_element most d met at (slice at end s))
-    unfolding walk_element guard bind pick
-    element-run zero out fit e h i q w o ih st = absurd (e refl)
-    element-run (suc d) out fit e h i q w o ih st =
-        let j : (at < b) × (b + z ≤ end) = subst (HeaderInside at end) w i in
-        simp (lt-ltb _ _ h, ← q, w, holding f m o, rest_part, front_part s b end z fit j.1)
-        (run_as_step s end at met (b + z) (identifier f m) (slice b (b + z) s) (run (walk_element most d) z (met + 1) b (slice b (b + z) s)) out (rw sub-one at (ih z (omega arith))) st)
+    -- what holds elements answers what the run of them does, and goes on where it ends
+    module _ (fit : end ≤ length s) (from : at < b) (to : b + z ≤ end) where
+      pub element_held : (d : ℕ) → (d ≡ 0 → ⊥) → met < most → (f % 2 ≡ 0 → ⊥) → (n : ℕ)
+          → ((g : ℕ) → b + z - b ≤ g → got n ≡ summed (met + 1) (run (walk_element most (d - 1)) g (met + 1) b (slice b (b + z) s)))
+          → got (taken n (b + z) (slice (b + z) end s)) ≡ counted met (walk_element most d met at (slice at end s))
+      unfolding walk_element guard bind pick
+      element_held zero e h o n ih = absurd (e refl)
+      element_held (suc d) e h o n ih =
+          simp (lt-ltb _ _ h, ← q, holding f m o, rest_part, front_part s b end z fit to)
+          (run_as_step s end at met (b + z) (identifier f m) (slice b (b + z) s) n (run (walk_element most d) z (met + 1) b (slice b (b + z) s)) (rw sub-one at (ih z (omega arith))))
 
-module _ (end at f m z b : ℕ) (r : Header) where
-  pub header_in : HeaderInside at end r → r ≡ Header.Is f m z b → (at < b) × (b + z ≤ end)
-  header_in i w = subst (HeaderInside at end) w i
-
-  pub inside-run : (out : Step) → HeaderInside at end r → r ≡ Header.Is f m z b → StepAt (b + z) out → StepInside at end out
-  inside-run (Step.Past x k) i w st = let j = header_in i w in omega arith
-  inside-run (Step.Refused k p) i w st = tt
+      pub element_held_no : (d : ℕ) → (d ≡ 0 → ⊥) → met < most → (f % 2 ≡ 0 → ⊥) → (k p : ℕ)
+          → ((g : ℕ) → b + z - b ≤ g → refused k p ≡ summed (met + 1) (run (walk_element most (d - 1)) g (met + 1) b (slice b (b + z) s)))
+          → refused k p ≡ counted met (walk_element most d met at (slice at end s))
+      unfolding walk_element guard bind pick
+      element_held_no zero e h o k p ih = absurd (e refl)
+      element_held_no (suc d) e h o k p ih =
+          simp (lt-ltb _ _ h, ← q, holding f m o, rest_part, front_part s b end z fit to)
+          (no_run_as_step s end at met (b + z) (identifier f m) (slice b (b + z) s) k p (run (walk_element most d) z (met + 1) b (slice b (b + z) s)) (rw sub-one at (ih z (omega arith))))
 
 -- ---- a run
 
@@ -116,23 +125,20 @@ module _ (s : List ℕ) (one : ℕ → ℕ → List ℕ → Answer (Taken Node))
       → run one (suc f) met at (slice at end s) ≡ bind (one met at (slice at end s)) (λ w. bind (run one f (met + nodes w.val) w.next w.rest) (λ ts. got (and w.val ts)))
   turn f at met l fit = run_step one f met at (slice at end s) (omega (arith, length-slice at end s fit))
 
-  refused_turn : (n p k q : ℕ) (r : Step) → p < end → end ≤ length s → of_step s end r ≡ counted n (one n p (slice p end s)) → r ≡ Step.Refused k q
-      → (g : ℕ) → end - p ≤ g → refused k q ≡ summed n (run one g n p (slice p end s))
+  refused_turn : (n p k q : ℕ) → p < end → end ≤ length s → refused k q ≡ counted n (one n p (slice p end s)) → (g : ℕ) → end - p ≤ g → refused k q ≡ summed n (run one g n p (slice p end s))
   unfolding bind
-  refused_turn n p k q r l fit e w zero h = absurd (omega arith)
-  refused_turn n p k q r l fit e w (suc g) h = rw (turn g p n l fit) (go (one n p (slice p end s)) (rw w at e))
+  refused_turn n p k q l fit e zero h = absurd (omega arith)
+  refused_turn n p k q l fit e (suc g) h = rw (turn g p n l fit) (go (one n p (slice p end s)) e)
     where
       go : (R : Answer (Taken Node)) → refused k q ≡ counted n R → refused k q ≡ summed n (bind R (λ w. bind (run one g (n + nodes w.val) w.next w.rest) (λ ts. got (and w.val ts))))
       go (got v) z = absurd (refused-got z)
       go (refused k₂ q₂) z = refused_as z
 
-  past_turn : (n p x m : ℕ) (r : Step) → p < end → end ≤ length s → StepInside p end r → of_step s end r ≡ counted n (one n p (slice p end s)) → r ≡ Step.Past x m
+  past_turn : (n p x m : ℕ) → p < end → end ≤ length s → p < x → x ≤ end → got (taken m x (slice x end s)) ≡ counted n (one n p (slice p end s))
       → (g : ℕ) → end - p ≤ g → (g' : ℕ) × (end - x ≤ g') × (summed m (run one g' m x (slice x end s)) ≡ summed n (run one g n p (slice p end s)))
   unfolding bind
-  past_turn n p x m r l fit i e w zero h = absurd (omega arith)
-  past_turn n p x m r l fit i e w (suc g) h =
-      let j : (p < x) × (x ≤ end) = subst (StepInside p end) w i in
-      (g, omega arith, rw (turn g p n l fit) (go (one n p (slice p end s)) (rw w at e)))
+  past_turn n p x m l fit i j e zero h = absurd (omega arith)
+  past_turn n p x m l fit i j e (suc g) h = (g, omega arith, rw (turn g p n l fit) (go (one n p (slice p end s)) e))
     where
       go : (R : Answer (Taken Node)) → got (taken m x (slice x end s)) ≡ counted n R
           → summed m (run one g m x (slice x end s)) ≡ summed n (bind R (λ w. bind (run one g (n + nodes w.val) w.next w.rest) (λ ts. got (and w.val ts))))
@@ -145,14 +151,13 @@ module _ (s : List ℕ) (one : ℕ → ℕ → List ℕ → Answer (Taken Node))
       go (refused k p) z = absurd (refused-got (sym z))
 
   -- the run's answer where an element is refused, where one more is past, and at the end
-  pub run_no : (at met n p k q : ℕ) (r : Step) → Left at met p n → p < end → end ≤ length s → of_step s end r ≡ counted n (one n p (slice p end s)) → r ≡ Step.Refused k q
-      → (f : ℕ) → end - at ≤ f → refused k q ≡ summed met (run one f met at (slice at end s))
-  run_no at met n p k q r z l fit e w f h = let y = z f h in refused_turn n p k q r l fit e w y.0 y.1 ∙ y.2
+  pub run_no : (at met n p k q : ℕ) → Left at met p n → p < end → end ≤ length s → refused k q ≡ counted n (one n p (slice p end s)) → (f : ℕ) → end - at ≤ f → refused k q ≡ summed met (run one f met at (slice at end s))
+  run_no at met n p k q z l fit e f h = let y = z f h in refused_turn n p k q l fit e y.0 y.1 ∙ y.2
 
-  pub run_more : (at met n p x m : ℕ) (r : Step) → Left at met p n → p < end → end ≤ length s → StepInside p end r → of_step s end r ≡ counted n (one n p (slice p end s)) → r ≡ Step.Past x m → Left at met x m
-  run_more at met n p x m r z l fit i e w f h =
+  pub run_more : (at met n p x m : ℕ) → Left at met p n → p < end → end ≤ length s → p < x → x ≤ end → got (taken m x (slice x end s)) ≡ counted n (one n p (slice p end s)) → Left at met x m
+  run_more at met n p x m z l fit i j e f h =
       let y = z f h in
-      let t = past_turn n p x m r l fit i e w y.0 y.1 in
+      let t = past_turn n p x m l fit i j e y.0 y.1 in
       (t.0, t.1, t.2 ∙ y.2)
 
   pub run_end : (at met n p : ℕ) → Left at met p n → p ≤ end → end ≤ p → (f : ℕ) → end - at ≤ f → got n ≡ summed met (run one f met at (slice at end s))
@@ -162,9 +167,6 @@ module _ (s : List ℕ) (one : ℕ → ℕ → List ℕ → Answer (Taken Node))
       let q : p ≡ end = omega arith in
       let o : slice p end s ≡ [] = rw q (slice_empty end s) in
       ap got (sym (add-zero n)) ∙ (rw (o, run_none) at y.2)
-
-pub step_in : (at end x m : ℕ) (r : Step) → StepInside at end r → r ≡ Step.Past x m → (at < x) × (x ≤ end)
-step_in at end x m r h w = subst (StepInside at end) w h
 
 -- ---- the whole
 
@@ -184,36 +186,34 @@ module _ (s : List ℕ) (bytes depth most : ℕ) where
   unfolding first_pass exactly guard inner
   unrolled h z = rw (le-leb _ _ h, lt-ltb 0 (length s) (omega arith), take-length) refl
 
-  module _ (r : Step) (h : length s ≤ bytes) (some : length s ≡ 0 → ⊥) (e : of_step s (length s) r ≡ counted 0 (walk_element most depth 0 0 (slice 0 (length s) s))) where
-    pub all_no : (k p : ℕ) → r ≡ Step.Refused k p → refused k p ≡ node_count (first_pass bytes depth most s)
+  module _ (h : length s ≤ bytes) (some : length s ≡ 0 → ⊥) where
+    pub all_no : (k p : ℕ) → refused k p ≡ counted 0 (walk_element most depth 0 0 (slice 0 (length s) s)) → refused k p ≡ node_count (first_pass bytes depth most s)
     unfolding inner bind
-    all_no k p q = rw (unrolled h some) (go (walk_element most depth 0 0 (slice 0 (length s) s)) (rw q at e))
+    all_no k p e = rw (unrolled h some) (go (walk_element most depth 0 0 (slice 0 (length s) s)) e)
       where
         go : (R : Answer (Taken Node)) → refused k p ≡ counted 0 R → refused k p ≡ node_count (inner R)
         go (got v) z = absurd (refused-got z)
         go (refused k₂ p₂) z = refused_as z
 
-    pub all_ok : (x n : ℕ) → r ≡ Step.Past x n → x ≡ length s → got n ≡ node_count (first_pass bytes depth most s)
-    unfolding inner bind guard
-    all_ok x n q o = rw (unrolled h some) (go (walk_element most depth 0 0 (slice 0 (length s) s)) (rw q at e))
-      where
-        go : (R : Answer (Taken Node)) → got (taken n x (slice x (length s) s)) ≡ counted 0 R → got n ≡ node_count (inner R)
-        go (got v) z =
-            let g = got_inj z in
-            let c : length v.rest ≡ 0 = sym (ap (λ (u : Taken ℕ). length u.rest) g) ∙ length-slice x (length s) s (le_refl _) ∙ omega arith in
-            rw (eq-eqb _ _ c) (ap got (ap (λ (u : Taken ℕ). u.val) g ∙ zero-add _))
-        go (refused k p) z = absurd (refused-got (sym z))
+    module _ (x n : ℕ) (e : got (taken n x (slice x (length s) s)) ≡ counted 0 (walk_element most depth 0 0 (slice 0 (length s) s))) where
+      pub all_ok : x ≡ length s → got n ≡ node_count (first_pass bytes depth most s)
+      unfolding inner bind guard
+      all_ok o = rw (unrolled h some) (go (walk_element most depth 0 0 (slice 0 (length s) s)) e)
+        where
+          go : (R : Answer (Taken Node)) → got (taken n x (slice x (length s) s)) ≡ counted 0 R → got n ≡ node_count (inner R)
+          go (got v) z =
+              let g = got_inj z in
+              let c : length v.rest ≡ 0 = sym (ap (λ (u : Taken ℕ). length u.rest) g) ∙ length-slice x (length s) s (le_refl _) ∙ omega arith in
+              rw (eq-eqb _ _ c) (ap got (ap (λ (u : Taken ℕ). u.val) g ∙ zero-add _))
+          go (refused k p) z = absurd (refused-got (sym z))
 
-    pub all_spare : (x n : ℕ) → StepInside 0 (length s) r → r ≡ Step.Past x n → (x ≡ length s → ⊥) → refused 7 x ≡ node_count (first_pass bytes depth most s)
-    unfolding inner bind guard
-    all_spare x n i q o = rw (unrolled h some) (go (walk_element most depth 0 0 (slice 0 (length s) s)) (rw q at e))
-      where
-        j : (0 < x) × (x ≤ length s)
-        j = subst (StepInside 0 (length s)) q i
-
-        go : (R : Answer (Taken Node)) → got (taken n x (slice x (length s) s)) ≡ counted 0 R → refused 7 x ≡ node_count (inner R)
-        go (got v) z =
-            let g = got_inj z in
-            let c : length v.rest ≡ length s - x = sym (ap (λ (u : Taken ℕ). length u.rest) g) ∙ length-slice x (length s) s (le_refl _) in
-            rw (ne_eqb (length v.rest) 0 (λ y. o (omega (arith, j)))) (ap (refused 7) (ap (λ (u : Taken ℕ). u.next) g))
-        go (refused k p) z = absurd (refused-got (sym z))
+      pub all_spare : 0 < x → x ≤ length s → (x ≡ length s → ⊥) → refused 7 x ≡ node_count (first_pass bytes depth most s)
+      unfolding inner bind guard
+      all_spare i j o = rw (unrolled h some) (go (walk_element most depth 0 0 (slice 0 (length s) s)) e)
+        where
+          go : (R : Answer (Taken Node)) → got (taken n x (slice x (length s) s)) ≡ counted 0 R → refused 7 x ≡ node_count (inner R)
+          go (got v) z =
+              let g = got_inj z in
+              let c : length v.rest ≡ length s - x = sym (ap (λ (u : Taken ℕ). length u.rest) g) ∙ length-slice x (length s) s (le_refl _) in
+              rw (ne_eqb (length v.rest) 0 (λ y. o (omega arith))) (ap (refused 7) (ap (λ (u : Taken ℕ). u.next) g))
+          go (refused k p) z = absurd (refused-got (sym z))

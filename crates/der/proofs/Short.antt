@@ -1,5 +1,5 @@
 -- The short ways of a header, in plain variables: each says what the long way would. Assumes nothing.
-use mathlib.Core.Path.{◌≡◌, refl, sym, subst}
+use mathlib.Core.Path.{◌≡◌, refl, sym}
 use mathlib.Core.List.{List}
 use Prim.Native.Nat.{ℕ, ◌+◌, ◌-◌, ◌*◌, ◌/◌, ◌%◌, ◌^◌, ◌<◌, ◌≤◌}
 use native.Mathlib.Omega.{arith}
@@ -7,17 +7,13 @@ use lib.Bits.{bit_and, bit_or}
 use lib.ListN.{length, get_or}
 use lib.Seq.{slice, length-slice}
 use borrow.Author.Tests.{le-leb}
+use Rattle.std.specs.Prelude.{Ok}
 use Rattle.answer.specs.Answer.{got, guard, bind, pick}
 use Rattle.codec.specs.Octets.{taken}
 use Rattle.codec.specs.Header.{identifier, header, read_identifier, read_length, read_header, reported}
-use Rattle.der.specs.Header.{of_length, LengthInside}
-use Rattle.der.specs.Short.{ShortIs, ShortAt, ExtentIs, ExtentAt, HeaderIs}
-use Rattle.der.specs.declared.header.Identifier.{Identifier}
-use Rattle.der.specs.declared.header.Length.{Length}
-use Rattle.der.specs.declared.header.Short.{Short}
-use Rattle.der.specs.declared.header.Extent.{Extent}
+use Rattle.der.specs.Short.{ShortIs, ExtentIs, HeaderIs}
 use Rattle.der.proofs.Bits.{tests}
-use Rattle.der.proofs.Headers.{length_at, number_high, identifier_high}
+use Rattle.der.proofs.Headers.{number_high, identifier_high}
 
 -- ---- an identifier of one octet, and of three
 
@@ -33,21 +29,14 @@ module _ (s : List ℕ) (at end : ℕ) (fit : end ≤ length s) where
       let q : at + 1 + 1 + 1 ≡ at + 3 = omega arith in
       let f = get_or s at 0 / 32 in
       let e = number_high s f (at + 1) end fit (omega arith) (omega arith) b (omega arith) (rw p c) in
-      record { is = rw (q, p) at (sym (identifier_high s at end (Identifier.Is f _ (at + 1 + 1 + 1)) fit h o e)); from = omega arith }
-
-pub short_of : (s : List ℕ) (at end f n p : ℕ) (r : Short) → ShortAt s at end r → r ≡ Short.Is f n p → ShortIs s at end f n p
-short_of s at end f n p r i w = subst (ShortAt s at end) w i
+      record { is = rw (q, p) at (sym (identifier_high s at end (Ok (record { form = f; number = _; next = at + 1 + 1 + 1 })) fit h o e)); from = omega arith }
 
 -- ---- a length and the content after it
 
-pub extent_is : (s : List ℕ) (at end z b : ℕ) (l : Length) → of_length s end l ≡ read_length at (slice at end s) → LengthInside at end l → l ≡ Length.Is z b → z ≤ end - b → ExtentIs s at end b (b + z)
-extent_is s at end z b l e i w h =
-    let j = length_at at end z b l i w in
+pub extent_is : (s : List ℕ) (at end z b : ℕ) → got (taken z b (slice b end s)) ≡ read_length at (slice at end s) → at < b → b ≤ end → z ≤ end - b → ExtentIs s at end b (b + z)
+extent_is s at end z b e i j h =
     let q : b + z - b ≡ z = omega arith in
-    record { is = rw (← e, w, q) refl; from = j.0; size = omega arith; to = omega (arith, j.1) }
-
-pub extent_of : (s : List ℕ) (at end b x : ℕ) (r : Extent) → ExtentAt s at end r → r ≡ Extent.Is b x → ExtentIs s at end b x
-extent_of s at end b x r i w = subst (ExtentAt s at end) w i
+    record { is = rw (← e, q) refl; from = i; size = omega arith; to = omega arith }
 
 -- a length of one octet
 pub extent_short : (s : List ℕ) (at end : ℕ) → end ≤ length s → at < end → get_or s at 0 < 128 → get_or s at 0 ≤ end - (at + 1) → ExtentIs s at end (at + 1) (at + 1 + get_or s at 0)
@@ -67,9 +56,9 @@ module _ (s : List ℕ) (at end : ℕ) (fit : end ≤ length s) where
   pub header_is : (f n p b x : ℕ) → ShortIs s at end f n p → ExtentIs s p end b x → HeaderIs s at end f n b x
   header_is f n p b x k i = record { is = joined f n p b x k.is i; from = omega (arith, k.from, i.from); size = i.size; to = i.to }
 
-  module _ (f n p b x : ℕ) (k : Short) (r : Extent) (u : ShortAt s at end k) (v : k ≡ Short.Is f n p) (i : ExtentAt s p end r) (w : r ≡ Extent.Is b x) where
+  module _ (f n p b x : ℕ) (k : ShortIs s at end f n p) (i : ExtentIs s p end b x) where
     quick : HeaderIs s at end f n b x
-    quick = header_is f n p b x (short_of s at end f n p k u v) (extent_of s p end b x r i w)
+    quick = header_is f n p b x k i
 
     pub quick_is : got (taken (header (identifier f n) (x - b)) b (slice b end s)) ≡ read_header at (slice at end s)
     quick_is = sym quick.is

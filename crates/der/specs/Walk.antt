@@ -1,22 +1,21 @@
 -- What the walk's answers say in the definitions' terms, and an extension's limits.
-use Rattle.std.specs.Prelude.{◌≡◌, List, ℕ, ◌+◌, ◌<◌, ◌≤◌}
+use Rattle.std.specs.Prelude.{List, ℕ, ◌+◌, ◌<◌, ◌≤◌, Result, IfOk}
 use Rattle.std.proofs.Math.Seq.{slice}
-use Rattle.answer.specs.Answer.{Answer, got, refused}
+use Rattle.answer.specs.Answer.{Answer, got, refused, answer_of}
+use Rattle.answer.specs.declared.Refused.{Refused}
 use Rattle.codec.specs.Octets.{Taken, taken}
 use Rattle.codec.specs.Limits.{extension_bytes, extension_depth, extension_elements}
 use Rattle.codec.specs.Tree.{Node, Nodes, nodes, all_nodes, run, walk_element}
 use Rattle.der.specs.declared.walk.Limits.{Limits}
-use Rattle.der.specs.declared.walk.Step.{Step}
-use Rattle.der.specs.declared.walk.Walked.{Walked}
+use Rattle.der.specs.declared.walk.Past.{Past}
 
 -- document 01: "down to depth 8", "at most 8,192 bytes and 512 elements"
 abbrev pub extension_limits : Limits
 extension_limits = record { bytes = extension_bytes; depth = extension_depth; elements = extension_elements }
 
 -- accepted with the element count, or refused with number and place
-abbrev pub of_walked : Walked → Answer ℕ
-of_walked (Walked.Accepted n) = got n
-of_walked (Walked.Refused k p) = refused k p
+abbrev pub of_walked : Result ℕ Refused → Answer ℕ
+of_walked = answer_of (λ n. n)
 
 -- "The walk reports how many elements it met": the node count of the tree
 abbrev pub node_count : Answer Node → Answer ℕ
@@ -25,13 +24,11 @@ node_count (refused k p) = refused k p
 
 -- ---- inside the walk: a step past an element or a run, with the count so far
 
-abbrev pub of_step : List ℕ → ℕ → Step → Answer (Taken ℕ)
-of_step s end (Step.Past x m) = got (taken m x (slice x end s))
-of_step s end (Step.Refused k p) = refused k p
+abbrev pub of_step : List ℕ → ℕ → Result Past Refused → Answer (Taken ℕ)
+of_step s end = answer_of (λ p. taken p.met p.next (slice p.next end s))
 
-abbrev pub of_run : Step → Answer ℕ
-of_run (Step.Past x m) = got m
-of_run (Step.Refused k p) = refused k p
+abbrev pub of_run : Result ℕ Refused → Answer ℕ
+of_run = answer_of (λ n. n)
 
 -- the count after an element, `met` being met before
 abbrev pub counted : ℕ → Answer (Taken Node) → Answer (Taken ℕ)
@@ -47,11 +44,5 @@ abbrev pub run_counted : ℕ → ℕ → ℕ → ℕ → ℕ → List ℕ → An
 run_counted most depth f met at s = summed met (run (walk_element most depth) f met at s)
 
 -- a step past an element goes on, and stays inside
-abbrev pub StepInside : ℕ → ℕ → Step → Type 0
-StepInside at end (Step.Past next n) = (at < next) × (next ≤ end)
-StepInside at end (Step.Refused k p) = Unit {0}
-
--- a step past a run ends where the run ends
-abbrev pub StepAt : ℕ → Step → Type 0
-StepAt end (Step.Past next n) = next ≡ end
-StepAt end (Step.Refused k p) = Unit {0}
+abbrev pub StepInside : ℕ → ℕ → Result Past Refused → Type 0
+StepInside at end r = IfOk r (λ p. (at < p.next) × (p.next ≤ end))

@@ -1,14 +1,14 @@
 // The first pass (document 01, "DER as walked"): nested elements within limits, no schema. One function walks an
 // element, another the run of elements inside it; they call each other. A header's octets are read once, and the
 // content of an element that holds none is not read at all.
-ghost use Rattle.std.specs.Prelude.{◌≡◌, ℕ, ◌-◌, ◌<◌, ◌≤◌, length};
+ghost use Rattle.std.specs.Prelude.{◌≡◌, ℕ, ◌-◌, ◌≤◌, length, IfSome};
 ghost use Rattle.std.proofs.Math.Seq.{slice};
 ghost use Rattle.codec.specs.Tree.{walk_element, first_pass};
 ghost use Rattle.der.specs.Quick.{PlainTo, SingleTo, QuickIs};
-ghost use Rattle.der.specs.Walk.{of_step, of_run, of_walked, counted, run_counted, node_count, StepInside, StepAt, extension_limits};
+ghost use Rattle.der.specs.Walk.{of_step, of_run, of_walked, counted, run_counted, node_count, StepInside, extension_limits};
 
-use crate::header::{Extent, Header, Short, extent_at, header_at, short_at};
-use answer::{RUNS_OUT, SPARE_BYTES, TOO_DEEP, TOO_LONG, TOO_MANY_ELEMENTS};
+use crate::header::{Extent, Header, Identifier, extent_at, header_at, short_at};
+use answer::{Refusal, Refused};
 
 // "An extension has at most 8,192 bytes and 512 elements", "down to depth 8".
 pub const EXTENSION_BYTES: usize = 8192;
@@ -37,180 +37,111 @@ impl Limits {
     }
 }
 
-// Past an element or a run: the next place, and how many elements were met so far; or a refusal with its place.
+// Past an element: the next place, and how many elements were met so far.
 #[derive(Clone, Copy)]
-pub(crate) enum Step {
-    Past(usize, usize),
-    Refused(u8, usize),
-}
-
-// What the first pass answers: how many elements it met; or a refusal with its place.
-#[derive(Clone, Copy)]
-pub enum Walked {
-    Accepted(usize),
-    Refused(u8, usize),
+pub(crate) struct Past {
+    pub(crate) next: usize,
+    pub(crate) met: usize,
 }
 
 // The element at at, where depth levels are left and met elements were met before.
 #[cycle(walk_element_walk_run)]
-fn walk_element(s: &[u8], at: usize, end: usize, depth: usize, met: usize, most: usize) -> Step
-    requires { end ≤ length s.now }
-    ensures is { of_step s.now end result ≡ counted met (walk_element most depth met at (slice at end s.now)) }
-    ensures inside { StepInside at end result }
+fn walk_element(s: &[u8], at: usize, depth: usize, met: usize, most: usize) -> Result<Past, Refused>
+    ensures is { of_step s.now (length s.now) result ≡ counted met (walk_element most depth met at (slice at (length s.now) s.now)) }
+    ensures inside { StepInside at (length s.now) result }
 {
     if depth == 0 {
-        return Step::Refused(TOO_DEEP, at);
+        return Err(Refused(Refusal::TooDeep, at));
     }
     if most <= met {
-        return Step::Refused(TOO_MANY_ELEMENTS, at);
+        return Err(Refused(Refusal::TooManyElements, at));
     }
-    match header_at(s, at, end) {
-        Header::Refused(k, place) => Step::Refused(k, place),
-        Header::Is {
-            form,
-            number: _,
-            size,
-            body,
-        } => {
-            let stop = body + size;
-            if form % 2 == 0 {
-                Step::Past(stop, met + 1)
-            } else {
-                walk_run(s, body, stop, depth - 1, met + 1, most)
-            }
-        }
+    let Header {
+        form,
+        size,
+        body,
+        ..
+    } = header_at(s, at)?;
+    let next = body + size;
+    if form % 2 == 0 {
+        return Ok(Past { next, met: met + 1 });
     }
+    let met = walk_run(&s[..next], body, depth - 1, met + 1, most)?;
+    Ok(Past { next, met })
 }
 
-// Past an element that a quick look takes whole: the next place, and how many elements were met so far.
-#[derive(Clone, Copy)]
-pub(crate) enum Quick {
-    Past(usize, usize),
-    No,
-}
-
-// Where the element at at stops, where it is of the universal class, its tag number is below 31 and it holds none; else 0.
-fn past_plain(s: &[u8], at: usize, end: usize) -> usize
-    requires { (at < end) × (end ≤ length s.now) }
-    ensures { (result ≡ 0 → ⊥) → PlainTo s.now at end result }
+// Where the element at at stops, where it is of the universal class, its tag number is below 31 and it holds none.
+fn past_plain(s: &[u8], at: usize) -> Option<usize>
+    ensures { IfSome result (PlainTo s.now at (length s.now)) }
 {
-    if 31 <= s[at] {
-        return 0;
+    let a = *s.get(at)?;
+    if 31 <= a {
+        return None;
     }
-    match extent_at(s, at + 1, end) {
-        Extent::No => 0,
-        Extent::Is(_, stop) => stop,
-    }
+    let Extent { stop, .. } = extent_at(s, at + 1)?;
+    Some(stop)
 }
 
-// Where the element at at stops, where it holds just one, which holds none; else 0. An explicit tag around a number, NULL or
+// Where the element at at stops, where it holds just one, which holds none. An explicit tag around a number, NULL or
 // octets is one.
-fn past_single(s: &[u8], at: usize, end: usize) -> usize
-    requires { (at < end) × (end ≤ length s.now) }
-    ensures { (result ≡ 0 → ⊥) → SingleTo s.now at end result }
+fn past_single(s: &[u8], at: usize) -> Option<usize>
+    ensures { IfSome result (SingleTo s.now at (length s.now)) }
 {
-    match short_at(s, at, end) {
-        Short::No => 0,
-        Short::Is {
-            form,
-            number: _,
-            next,
-        } => {
-            if form % 2 == 0 {
-                return 0;
-            }
-            match extent_at(s, next, end) {
-                Extent::No => 0,
-                Extent::Is(body, stop) => {
-                    if body == stop {
-                        return 0;
-                    }
-                    if past_plain(s, body, stop) != stop {
-                        return 0;
-                    }
-                    stop
-                }
-            }
-        }
+    let Identifier { form, next, .. } = short_at(s, at)?;
+    if form % 2 == 0 {
+        return None;
     }
+    let Extent { body, stop } = extent_at(s, next)?;
+    if past_plain(&s[..stop], body)? != stop {
+        return None;
+    }
+    Some(stop)
 }
 
 // The element at at, where it is one of these and no limit is near.
-fn quick_step(s: &[u8], at: usize, end: usize, depth: usize, met: usize, most: usize) -> Quick
-    requires { (at < end) × (end ≤ length s.now) }
-    ensures { QuickIs s.now most depth met at end result }
+fn quick_step(s: &[u8], at: usize, depth: usize, met: usize, most: usize) -> Option<Past>
+    ensures { QuickIs s.now most depth met at (length s.now) result }
 {
-    if depth < 2 {
-        return Quick::No;
+    if depth < 2 || most < 2 || most - 2 < met {
+        return None;
     }
-    if most < 2 {
-        return Quick::No;
+    if let Some(next) = past_plain(s, at) {
+        return Some(Past { next, met: met + 1 });
     }
-    if most - 2 < met {
-        return Quick::No;
-    }
-    let plain = past_plain(s, at, end);
-    if plain != 0 {
-        return Quick::Past(plain, met + 1);
-    }
-    let single = past_single(s, at, end);
-    if single == 0 {
-        return Quick::No;
-    }
-    Quick::Past(single, met + 2)
+    let next = past_single(s, at)?;
+    Some(Past { next, met: met + 2 })
 }
 
-// The elements from at to end, one after the other.
+// The elements from at to the holder's end, one after the other: how many were met so far.
 #[cycle(walk_element_walk_run)]
-fn walk_run(s: &[u8], at: usize, end: usize, depth: usize, met: usize, most: usize) -> Step
-    requires { (at ≤ end) × (end ≤ length s.now) }
-    ensures is { (f : ℕ) → end - at ≤ f → of_run result ≡ run_counted most depth f met at (slice at end s.now) }
-    ensures inside { StepAt end result }
+fn walk_run(s: &[u8], at: usize, depth: usize, met: usize, most: usize) -> Result<usize, Refused>
+    requires { at ≤ length s.now }
+    ensures { (f : ℕ) → length s.now - at ≤ f → of_run result ≡ run_counted most depth f met at (slice at (length s.now) s.now) }
 {
-    let mut place = at;
-    let mut n = met;
-    while place < end {
-        match quick_step(s, place, end, depth, n, most) {
-            Quick::Past(next, m) => {
-                place = next;
-                n = m;
-            }
-            Quick::No => match walk_element(s, place, end, depth, n, most) {
-                Step::Refused(k, fault) => {
-                    return Step::Refused(k, fault);
-                }
-                Step::Past(next, m) => {
-                    place = next;
-                    n = m;
-                }
-            },
-        }
+    let mut past = Past { next: at, met };
+    while past.next < s.len() {
+        past = match quick_step(s, past.next, depth, past.met, most) {
+            Some(quick) => quick,
+            None => walk_element(s, past.next, depth, past.met, most)?,
+        };
     }
-    Step::Past(end, n)
+    Ok(past.met)
 }
 
-// Walks the one element that s is. Any bytes and any limits get an answer, and nothing is changed.
-pub fn walk(s: &[u8], limits: Limits) -> Walked
+// Walks the one element that s is. Any bytes and any limits get an answer, how many elements were met or a refusal, and
+// nothing is changed.
+pub fn walk(s: &[u8], limits: Limits) -> Result<usize, Refused>
     ensures { of_walked result ≡ node_count (first_pass limits.bytes limits.depth limits.elements s.now) }
 {
-    let bytes = limits.bytes;
-    let depth = limits.depth;
-    let most = limits.elements;
-    let end = s.len();
-    if bytes < end {
-        return Walked::Refused(TOO_LONG, 0);
+    if limits.bytes < s.len() {
+        return Err(Refused(Refusal::TooLong, 0));
     }
-    if end == 0 {
-        return Walked::Refused(RUNS_OUT, 0);
+    if s.is_empty() {
+        return Err(Refused(Refusal::RunsOut, 0));
     }
-    match walk_element(s, 0, end, depth, 0, most) {
-        Step::Refused(k, place) => Walked::Refused(k, place),
-        Step::Past(next, n) => {
-            if next == end {
-                Walked::Accepted(n)
-            } else {
-                Walked::Refused(SPARE_BYTES, next)
-            }
-        }
+    let Past { next, met } = walk_element(s, 0, limits.depth, 0, limits.elements)?;
+    if next != s.len() {
+        return Err(Refused(Refusal::SpareBytes, next));
     }
+    Ok(met)
 }

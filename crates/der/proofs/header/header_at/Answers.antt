@@ -1,30 +1,7 @@
--- `header_at` meets its contract: identifier, length and fit, one law of `Headers` for each answer. Assumes nothing.
-use native.Mathlib.Omega.{arith}
-use mathlib.Core.Path.{subst}
-use Rattle.der.specs.Header.{IdentifierInside, LengthInside}
-use Rattle.der.proofs.Headers.{no_identifier, no_length, no_fit, fits-header}
+-- `header_at` meets its contract: a whole header, or its refusal at the place that is reported. Assumes nothing.
+use Rattle.std.proofs.Common.{rules}
+use Rattle.der.proofs.Headers.{header_mapped}
 use Rattle.der.proofs.header.header_at.Goals as goal
 
--- the places that the two readers ensure, as the arms of the matches know them
-pub overflow_sub-end : goal.overflow_sub-end
-overflow_sub-end c = omega (arith, subst (LengthInside _ _) c.in-Is-read_length.is c.read_length.ensures.inside)
-
-pub returns-in-Refused-clause-is : goal.returns-in-Refused-clause-is
-returns-in-Refused-clause-is c = search no_identifier
-
-pub returns-in-Refused-read_length-clause-is : goal.returns-in-Refused-read_length-clause-is
-returns-in-Refused-read_length-clause-is c = search no_length
-
-pub returns-then-size-end-clause-is : goal.returns-then-size-end-clause-is
-returns-then-size-end-clause-is c = search fits-header
-
-pub returns-then-size-end-clause-inside : goal.returns-then-size-end-clause-inside
-returns-then-size-end-clause-inside c =
-    omega (
-      arith,
-      subst (IdentifierInside _ _) c.in-Is.is c.read_identifier.ensures.inside,
-      subst (LengthInside _ _) c.in-Is-read_length.is c.read_length.ensures.inside,
-    )
-
-pub returns-else-size-end-clause-is : goal.returns-else-size-end-clause-is
-returns-else-size-end-clause-is c = search no_fit
+pub returns-clause-is : goal.returns-clause-is
+returns-clause-is c = header_mapped _ _ _ _ _ _ c.whole_header.ensures.is c.map_err.ensures.cases (λ e r q. search rules)

@@ -1,56 +1,48 @@
 -- `read_length` meets its contract: each return follows the definition's tests, octet by octet (`tests`). Assumes nothing.
-use native.Mathlib.Omega.{arith}
-use Prim.Native.Nat.{◌+◌}
+use mathlib.Core.Path.{refl}
 use Rattle.answer.specs.Answer.{pick, guard}
+use Rattle.answer.proofs.Results.{handed_on}
+use Rattle.codec.specs.Octets.{octet}
 use Rattle.codec.specs.Header.{read_length}
-use Rattle.der.proofs.Bits.{tests}
-use Rattle.der.proofs.Headers.{length_high}
+use Rattle.der.proofs.Bits.{tests, join8}
 use Rattle.der.proofs.header.read_length.Goals as goal
 
-pub returns-then-end-at-clause-is : goal.returns-then-end-at-clause-is
-unfolding read_length pick guard
-returns-then-end-at-clause-is c = search tests
+pub returns-in_err-a-clause-is : goal.returns-in_err-a-clause-is
+unfolding read_length pick guard octet
+returns-in_err-a-clause-is c = rw (handed_on _ _ c.from_residual.ensures.1, c.in_err-a.ensures.1, c.in_err-a.ensures.0) refl
 
 pub returns-then-a-lt128-clause-is : goal.returns-then-a-lt128-clause-is
-unfolding read_length pick guard
-returns-then-a-lt128-clause-is c = search tests
+unfolding read_length pick guard octet
+returns-then-a-lt128-clause-is c = rw c.in_ok-a.ensures.1 (search tests)
 
-pub returns-then-end-p-clause-is : goal.returns-then-end-p-clause-is
-unfolding read_length pick guard
-returns-then-end-p-clause-is c = search tests
+pub returns-in_err-b-clause-is : goal.returns-in_err-b-clause-is
+unfolding read_length pick guard octet
+returns-in_err-b-clause-is c = rw (handed_on _ _ c.from_residual-in_err-b.ensures.1, c.in_err-b.ensures.1, c.in_ok-a.ensures.1, c.in_err-b.ensures.0) (search tests)
 
 pub returns-then-b-lt128-clause-is : goal.returns-then-b-lt128-clause-is
-unfolding read_length pick guard
-returns-then-b-lt128-clause-is c = search tests
-
-pub overflow_cast-result-then-a : goal.overflow_cast-result-then-a
-overflow_cast-result-then-a c = omega (arith, c.shared_slice_known-then-a-1.given (c.args.at + 1))
+unfolding read_length pick guard octet
+returns-then-b-lt128-clause-is c = rw (c.in_ok-a.ensures.1, c.in_ok-b.ensures.1) (search tests)
 
 pub returns-then-a-clause-is : goal.returns-then-a-clause-is
-unfolding read_length pick guard
-returns-then-a-clause-is c = search tests
+unfolding read_length pick guard octet
+returns-then-a-clause-is c = rw (c.in_ok-a.ensures.1, c.in_ok-b.ensures.1) (search tests)
 
-pub returns-then-end-p-2-clause-is : goal.returns-then-end-p-2-clause-is
-unfolding read_length pick guard
-returns-then-end-p-2-clause-is c = search tests
+pub returns-in_err-b-2-clause-is : goal.returns-in_err-b-2-clause-is
+unfolding read_length pick guard octet
+returns-in_err-b-2-clause-is c = rw (handed_on _ _ c.from_residual-in_err-b-2.ensures.1, c.in_err-b-2.ensures.1, c.in_ok-a.ensures.1, c.in_err-b-2.ensures.0) (search tests)
 
 pub returns-then-b-lt1-clause-is : goal.returns-then-b-lt1-clause-is
-unfolding read_length pick guard
-returns-then-b-lt1-clause-is c = search tests
+unfolding read_length pick guard octet
+returns-then-b-lt1-clause-is c = rw (c.in_ok-a.ensures.1, c.in_ok-b-2.ensures.1) (search tests)
 
-pub returns-then-end-q-clause-is : goal.returns-then-end-q-clause-is
-unfolding read_length pick guard
-returns-then-end-q-clause-is c = search tests
-
-pub overflow_cast-result-then-a-2 : goal.overflow_cast-result-then-a-2
-overflow_cast-result-then-a-2 c = omega (arith, c.shared_slice_known-then-a-2-1.given (c.args.at + 1))
-
-pub overflow_cast-result-then-a-2-2 : goal.overflow_cast-result-then-a-2-2
-overflow_cast-result-then-a-2-2 c = omega (arith, c.shared_slice_known-then-a-2-2-1.given (c.args.at + 1 + 1))
+pub returns-in_err-c-clause-is : goal.returns-in_err-c-clause-is
+unfolding read_length pick guard octet
+returns-in_err-c-clause-is c = rw (handed_on _ _ c.from_residual-in_err-c.ensures.1, c.in_err-c.ensures.1, c.in_ok-a.ensures.1, c.in_ok-b-2.ensures.1, c.in_err-c.ensures.0) (search tests)
 
 pub returns-then-a-2-clause-is : goal.returns-then-a-2-clause-is
-returns-then-a-2-clause-is c = search (length_high, c.shared_slice_known-then-a-2-1.given)
+unfolding read_length pick guard octet
+returns-then-a-2-clause-is c = rw (c.in_ok-a.ensures.1, c.in_ok-b-2.ensures.1, c.in_ok-c.ensures.1) (search (tests, join8))
 
 pub returns-clause-is : goal.returns-clause-is
-unfolding read_length pick guard
-returns-clause-is c = search tests
+unfolding read_length pick guard octet
+returns-clause-is c = rw c.in_ok-a.ensures.1 (search tests)

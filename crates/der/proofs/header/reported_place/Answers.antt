@@ -1,4 +1,4 @@
--- `reported_place` is the definition `reported_place`, the one place that decides it. Assumes nothing.
+-- `reported_place` meets its contract. Assumes nothing.
 use mathlib.Core.Path.{refl}
 use Rattle.codec.specs.Header.{reported_place}
 use Rattle.der.proofs.header.reported_place.Goals as goal
