@@ -208,8 +208,8 @@ fn whole_header(s: &[u8], at: usize) -> Result<Header, Refused>
     })
 }
 
-// The header of the element at at.
-pub(crate) fn header_at(s: &[u8], at: usize) -> Result<Header, Refused>
+// The header of the element at at, up to the holder's end.
+pub fn read_header(s: &[u8], at: usize) -> Result<Header, Refused>
     ensures is { of_header s.now (length s.now) result ≡ read_header at (slice at (length s.now) s.now) }
     ensures inside { HeaderInside at (length s.now) result }
 {
@@ -226,16 +226,8 @@ pub fn holder(s: &[u8], end: usize) -> &[u8]
     }
 }
 
-// The header of the element at at, up to its holder's end or that of s, whichever comes first.
-pub fn read_header(s: &[u8], at: usize, end: usize) -> Result<Header, Refused>
-    ensures is { of_header s.now end result ≡ read_header at (slice at end s.now) }
-    ensures inside { HeaderInside at end result × HeaderInside at (length s.now) result }
-{
-    header_at(holder(s, end), at)
-}
-
-// The same header by short looks, where they serve.
-fn quick_at(s: &[u8], at: usize) -> Result<Header, Refused>
+// What `read_header` answers, sooner where the identifier has one octet or three, as a field's has.
+pub fn quick_header(s: &[u8], at: usize) -> Result<Header, Refused>
     ensures is { of_header s.now (length s.now) result ≡ read_header at (slice at (length s.now) s.now) }
     ensures inside { HeaderInside at (length s.now) result }
 {
@@ -249,13 +241,5 @@ fn quick_at(s: &[u8], at: usize) -> Result<Header, Refused>
             });
         }
     }
-    header_at(s, at)
-}
-
-// What `read_header` answers, sooner where the identifier has one octet or three, as a field's has.
-pub fn quick_header(s: &[u8], at: usize, end: usize) -> Result<Header, Refused>
-    ensures is { of_header s.now end result ≡ read_header at (slice at end s.now) }
-    ensures inside { HeaderInside at end result × HeaderInside at (length s.now) result }
-{
-    quick_at(holder(s, end), at)
+    read_header(s, at)
 }

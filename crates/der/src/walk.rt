@@ -7,7 +7,7 @@ ghost use Rattle.codec.specs.Tree.{walk_element, first_pass};
 ghost use Rattle.der.specs.Quick.{PlainTo, SingleTo, QuickIs};
 ghost use Rattle.der.specs.Walk.{of_step, of_run, of_walked, counted, run_counted, node_count, StepInside, extension_limits};
 
-use crate::header::{Extent, Header, Identifier, extent_at, header_at, short_at};
+use crate::header::{Extent, Header, Identifier, extent_at, read_header, short_at};
 use answer::{Refusal, Refused};
 
 // "An extension has at most 8,192 bytes and 512 elements", "down to depth 8".
@@ -61,7 +61,7 @@ fn walk_element(s: &[u8], at: usize, depth: usize, met: usize, most: usize) -> R
         size,
         body,
         ..
-    } = header_at(s, at)?;
+    } = read_header(s, at)?;
     let next = body + size;
     if form % 2 == 0 {
         return Ok(Past { next, met: met + 1 });
