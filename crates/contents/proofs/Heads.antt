@@ -1,9 +1,9 @@
 -- The first six of the eight as the code reads them, in pairs; and that the eight are these six and two lists.
 -- Assumes nothing.
-use mathlib.Core.Path.{◌≡◌, refl, sym, subst, ◌∙◌}
+use mathlib.Core.Path.{◌≡◌, refl, sym, ◌∙◌}
 use mathlib.Core.Bool.{Bool, true, false}
 use mathlib.Core.List.{List}
-use Prim.Native.Nat.{ℕ, ◌+◌, ◌<◌, ◌≤◌}
+use Prim.Native.Nat.{ℕ, ◌≤◌}
 use native.Mathlib.Omega.{arith}
 use lib.Dec.{T, leb}
 use lib.Seq.{slice}
@@ -12,21 +12,13 @@ use Rattle.codec.specs.Octets.{Taken, taken}
 use Rattle.codec.specs.Integer.{integer_of}
 use Rattle.codec.specs.Element.{both}
 use Rattle.schema.specs.Table.{known_version, level_top, top32}
-use Rattle.schema.specs.Content.{FieldWith, Place, place_at}
+use Rattle.schema.specs.Content.{FieldWith, Place}
 use Rattle.schema.specs.Decode.{read_integer, read_enumerated, read_octets, read_list, read_version, read_eight, as_place}
-use Rattle.records.specs.declared.Part.{Part}
-use Rattle.records.specs.declared.Security.{Security}
-use Rattle.contents.specs.Leaf.{read_number, of_number, of_octets, NumberInside, OctetsInside}
+use Rattle.contents.specs.Leaf.{read_number}
 use Rattle.contents.specs.Element.{opened_as}
-use Rattle.contents.specs.Head.{heading, lists_after, read_attestation, read_keymint, read_names, level_after, head_after, read_head, of_secured, of_names, of_head, KnownVersion, VersionInside, LevelInside, SecuredInside, AttestationInside, NamesInside, HeadInside}
-use Rattle.contents.specs.declared.leaf.Number.{Number}
-use Rattle.contents.specs.declared.leaf.Octets.{Octets}
-use Rattle.contents.specs.declared.head.Secured.{Secured}
-use Rattle.contents.specs.declared.head.Names.{Names}
-use Rattle.contents.specs.declared.head.Head.{Head}
+use Rattle.contents.specs.Head.{heading, lists_after, read_attestation, read_keymint, read_names, level_after, head_after, read_head, KnownVersion}
 use Rattle.contents.proofs.Open.{after_tagged, tagged_open}
-use Rattle.contents.proofs.Members.{number_small, number-inside}
-use Rattle.contents.proofs.Roots.{octets-inside, bind-same}
+use Rattle.contents.proofs.Members.{number_small}
 
 -- ---- tests of a version
 
@@ -64,134 +56,92 @@ version-number p bs = rw (tagged_open, tagged_open) (tag_checked p (opened_as 0 
 known_of : (n : ℕ) (b : Bool) → b ≡ known_version n → b ≡ true → T (known_version n)
 known_of n b q u = let z : known_version n ≡ true = sym q ∙ u in rw z tt
 
-module _ (s : List ℕ) (at end : ℕ) (r : Number) (e : of_number s end r ≡ read_number 2 top32 at (slice at end s)) where
-  pub version_no : (k p : ℕ) → r ≡ Number.Refused k p → refused k p ≡ read_version at (slice at end s)
+module _ (s : List ℕ) (at end : ℕ) where
+  pub version_no : (k p : ℕ) → refused k p ≡ read_number 2 top32 at (slice at end s) → refused k p ≡ read_version at (slice at end s)
   unfolding bind
-  version_no k p w = rw (version-number, ← e, w) refl
+  version_no k p e = rw (version-number, ← e) refl
 
-  module _ (n x : ℕ) (b : Bool) (w : r ≡ Number.Is n x) (q : b ≡ known_version n) where
+  module _ (n x : ℕ) (e : got (taken n x (slice x end s)) ≡ read_number 2 top32 at (slice at end s)) (b : Bool) (q : b ≡ known_version n) where
     pub version-is : b ≡ true → got (taken n x (slice x end s)) ≡ read_version at (slice at end s)
     unfolding bind guard
-    version-is u = rw (version-number, ← e, w, ← q, u) refl
+    version-is u = rw (version-number, ← e, ← q, u) refl
 
     pub version_unknown : b ≡ false → refused 8 at ≡ read_version at (slice at end s)
     unfolding bind guard
-    version_unknown u = rw (version-number, ← e, w, ← q, u) refl
+    version_unknown u = rw (version-number, ← e, ← q, u) refl
 
-    pub version-inside : b ≡ true → NumberInside at end r → (at < x) × ((x ≤ end) × KnownVersion n)
-    version-inside u i =
-        let j = number-inside at end n x r i w in
-        (j.0, (j.1, (known_of n b q u, number_small s at end 2 top32 n x r e w)))
-
-pub version_known : (at end n x : ℕ) (r : Number) → VersionInside at end r → r ≡ Number.Is n x → (at < x) × ((x ≤ end) × KnownVersion n)
-version_known at end n x r i w = subst (VersionInside at end) w i
+    pub version_known : b ≡ true → KnownVersion n
+    version_known u = (known_of n b q u, number_small s at end 2 top32 n x e)
 
 -- ---- a version and its level
 
-module _ (s : List ℕ) (at end : ℕ) (r : Number) where
-  module _ (v top : ℕ) (e : of_number s end r ≡ read_number 10 top at (slice at end s)) where
-    pub level_no : (k p : ℕ) → r ≡ Number.Refused k p → refused k p ≡ level_after v top at (slice at end s)
+module _ (s : List ℕ) (at end : ℕ) where
+  module _ (v top : ℕ) where
+    pub level_no : (k p : ℕ) → refused k p ≡ read_number 10 top at (slice at end s) → refused k p ≡ level_after v top at (slice at end s)
     unfolding level_after read_enumerated read_number bind
-    level_no k p w = rw (← e, w) refl
+    level_no k p e = rw (← e) refl
 
-    pub level-is : (n x : ℕ) → r ≡ Number.Is n x → got (taken (v, n) x (slice x end s)) ≡ level_after v top at (slice at end s)
+    pub level-is : (n x : ℕ) → got (taken n x (slice x end s)) ≡ read_number 10 top at (slice at end s) → got (taken (v, n) x (slice x end s)) ≡ level_after v top at (slice at end s)
     unfolding level_after read_enumerated read_number bind
-    level-is n x w = rw (← e, w) refl
+    level-is n x e = rw (← e) refl
 
-  module _ (e : of_number s end r ≡ read_version at (slice at end s)) where
-    pub attestation_no : (k p : ℕ) → r ≡ Number.Refused k p → refused k p ≡ read_attestation at (slice at end s)
-    unfolding read_attestation both bind
-    attestation_no k p w = rw (← e, w) refl
+  pub attestation_no : (k p : ℕ) → refused k p ≡ read_version at (slice at end s) → refused k p ≡ read_attestation at (slice at end s)
+  unfolding read_attestation both bind
+  attestation_no k p e = rw (← e) refl
 
-    pub attestation-is : (n x top : ℕ) (t : Secured) → r ≡ Number.Is n x → top ≡ level_top n → of_secured s end t ≡ level_after n top x (slice x end s) → of_secured s end t ≡ read_attestation at (slice at end s)
-    unfolding read_attestation level_after both bind
-    attestation-is n x top t w u q = rw (← e, w, ← u) q
+  pub attestation-is : (n x top : ℕ) (t : Answer (Taken (ℕ × ℕ))) → got (taken n x (slice x end s)) ≡ read_version at (slice at end s) → top ≡ level_top n → t ≡ level_after n top x (slice x end s)
+      → t ≡ read_attestation at (slice at end s)
+  unfolding read_attestation level_after both bind
+  attestation-is n x top t e u q = rw (← e, ← u) q
 
-  module _ (v : ℕ) (e : of_number s end r ≡ read_number 2 top32 at (slice at end s)) where
-    pub keymint_no : (k p : ℕ) → r ≡ Number.Refused k p → refused k p ≡ read_keymint v at (slice at end s)
-    unfolding read_keymint read_integer read_number both bind
-    keymint_no k p w = rw (← e, w) refl
+  pub keymint_no : (v k p : ℕ) → refused k p ≡ read_number 2 top32 at (slice at end s) → refused k p ≡ read_keymint v at (slice at end s)
+  unfolding read_keymint read_integer read_number both bind
+  keymint_no v k p e = rw (← e) refl
 
-    pub keymint-is : (n x top : ℕ) (t : Secured) → r ≡ Number.Is n x → top ≡ level_top v → of_secured s end t ≡ level_after n top x (slice x end s) → of_secured s end t ≡ read_keymint v at (slice at end s)
-    unfolding read_keymint level_after read_integer read_number both bind
-    keymint-is n x top t w u q = rw (← e, w, ← u) q
+  pub keymint-is : (v n x top : ℕ) (t : Answer (Taken (ℕ × ℕ))) → got (taken n x (slice x end s)) ≡ read_number 2 top32 at (slice at end s) → top ≡ level_top v → t ≡ level_after n top x (slice x end s)
+      → t ≡ read_keymint v at (slice at end s)
+  unfolding read_keymint level_after read_integer read_number both bind
+  keymint-is v n x top t e u q = rw (← e, ← u) q
 
-module _ (at end n x : ℕ) (r : Number) where
-  pub attestation-inside : (t : Secured) → VersionInside at end r → r ≡ Number.Is n x → LevelInside x end n t → AttestationInside at end t
-  attestation-inside (Secured.Is g y) i w l =
-      let j = version_known at end n x r i w in
-      (omega (arith, j), (l.1.0, rw l.1.1 j.1.1))
-  attestation-inside (Secured.Refused k p) i w l = tt
+  -- ---- the challenge and the unique id
 
-  pub keymint-inside : (t : Secured) → NumberInside at end r → r ≡ Number.Is n x → LevelInside x end n t → SecuredInside at end t
-  keymint-inside (Secured.Is g y) i w l = let j = number-inside at end n x r i w in (omega (arith, j), l.1.0)
-  keymint-inside (Secured.Refused k p) i w l = tt
+  pub names_no : (k p : ℕ) → refused k p ≡ read_octets as_place at (slice at end s) → refused k p ≡ read_names at (slice at end s)
+  unfolding read_names both bind
+  names_no k p e = rw (← e) refl
 
--- ---- the challenge and the unique id
-
-abbrev part : ℕ → ℕ → Part
-part p z = record { start = p; len = z }
-
-module _ (s : List ℕ) (at end : ℕ) (r : Octets) where
-  module _ (e : of_octets s end r ≡ read_octets as_place at (slice at end s)) where
-    pub names_no : (k p : ℕ) → r ≡ Octets.Refused k p → refused k p ≡ read_names at (slice at end s)
+  module _ (c : Place) (x : ℕ) (e : got (taken c x (slice x end s)) ≡ read_octets as_place at (slice at end s)) where
+    pub names_one : (k p : ℕ) → refused k p ≡ read_octets as_place x (slice x end s) → refused k p ≡ read_names at (slice at end s)
     unfolding read_names both bind
-    names_no k p w = rw (← e, w) refl
+    names_one k p e₂ = rw (← e, ← e₂) refl
 
-    module _ (p z x : ℕ) (t : Octets) (w : r ≡ Octets.Is p z x) (q : of_octets s end t ≡ read_octets as_place x (slice x end s)) where
-      pub names_one : (k o : ℕ) → t ≡ Octets.Refused k o → refused k o ≡ read_names at (slice at end s)
-      unfolding read_names both bind
-      names_one k o u = rw (← e, w, ← q, u) refl
+    pub names_is : (u : Place) (y : ℕ) → got (taken u y (slice y end s)) ≡ read_octets as_place x (slice x end s) → got (taken (c, u) y (slice y end s)) ≡ read_names at (slice at end s)
+    unfolding read_names both bind
+    names_is u y e₂ = rw (← e, ← e₂) refl
 
-      pub names_is : (p₂ z₂ x₂ : ℕ) → t ≡ Octets.Is p₂ z₂ x₂ → got (taken (place_at p z, place_at p₂ z₂) x₂ (slice x₂ end s)) ≡ read_names at (slice at end s)
-      unfolding read_names both bind
-      names_is p₂ z₂ x₂ u = rw (← e, w, ← q, u) refl
+  -- ---- the six
 
-pub names_inside : (at end : ℕ) (r : Octets) (p z x : ℕ) (t : Octets) (p₂ z₂ x₂ : ℕ) → OctetsInside at end r → r ≡ Octets.Is p z x → OctetsInside x end t → t ≡ Octets.Is p₂ z₂ x₂ → NamesInside at end (Names.Is (part p z) (part p₂ z₂) x₂)
-names_inside at end r p z x t p₂ z₂ x₂ i w l u =
-    let j = octets-inside at end p z x r i w in
-    let m = octets-inside x end p₂ z₂ x₂ t l u in
-    (omega (arith, j, m), (m.1.0, (j.1.1, m.1.1)))
-
--- ---- the six
-
-module _ (s : List ℕ) (at end v l : ℕ) (r : Secured) (e : of_secured s end r ≡ read_keymint v at (slice at end s)) where
-  pub after_no : (k p : ℕ) → r ≡ Secured.Refused k p → refused k p ≡ head_after (v, l) at (slice at end s)
-  unfolding head_after bind
-  after_no k p w = rw (← e, w) refl
-
-  module _ (g : Security) (x : ℕ) (t : Names) (w : r ≡ Secured.Is g x) (q : of_names s end t ≡ read_names x (slice x end s)) where
-    pub after_one : (k p : ℕ) → t ≡ Names.Refused k p → refused k p ≡ head_after (v, l) at (slice at end s)
-    unfolding head_after bind
-    after_one k p u = rw (← e, w, ← q, u) refl
-
-    pub after_is : (a b : Part) (y : ℕ) → t ≡ Names.Is a b y
-        → got (taken (heading (v, l) (g.version, g.level) (place_at a.start a.len, place_at b.start b.len)) y (slice y end s)) ≡ head_after (v, l) at (slice at end s)
-    unfolding head_after bind
-    after_is a b y u = rw (← e, w, ← q, u) refl
-
-pub after_inside : (at end : ℕ) (a : Security) (r : Secured) (g : Security) (x : ℕ) (t : Names) (c u : Part) (y : ℕ)
-    → SecuredInside at end r → r ≡ Secured.Is g x → NamesInside x end t → t ≡ Names.Is c u y → KnownVersion a.version → HeadInside at end (Head.Is a g c u y)
-after_inside at end a r g x t c u y i w l o known =
-    let j : (at < x) × (x ≤ end) = subst (SecuredInside at end) w i in
-    let m : (x < y) × ((y ≤ end) × ((c.start + c.len ≤ end) × (u.start + u.len ≤ end))) = subst (NamesInside x end) o l in
-    (omega (arith, j, m), (m.1.0, (m.1.1, known)))
-
-module _ (s : List ℕ) (at end : ℕ) (r : Secured) (e : of_secured s end r ≡ read_attestation at (slice at end s)) where
-  pub head_no : (k p : ℕ) → r ≡ Secured.Refused k p → refused k p ≡ read_head at (slice at end s)
+  pub head_no : (k p : ℕ) → refused k p ≡ read_attestation at (slice at end s) → refused k p ≡ read_head at (slice at end s)
   unfolding read_head bind
-  head_no k p w = rw (← e, w) refl
+  head_no k p e = rw (← e) refl
 
-  pub head-is : (g : Security) (x : ℕ) (t : Head) → r ≡ Secured.Is g x → of_head s end t ≡ head_after (g.version, g.level) x (slice x end s) → of_head s end t ≡ read_head at (slice at end s)
-  unfolding read_head bind
-  head-is g x t w q = rw (← e, w) q
+  module _ (a : ℕ × ℕ) (x : ℕ) (e : got (taken a x (slice x end s)) ≡ read_attestation at (slice at end s)) where
+    pub head_keymint_no : (k p : ℕ) → refused k p ≡ read_keymint a.0 x (slice x end s) → refused k p ≡ read_head at (slice at end s)
+    unfolding read_head head_after bind
+    head_keymint_no k p e₂ = rw (← e, ← e₂) refl
 
-pub attestation_known : (at end : ℕ) (g : Security) (x : ℕ) (r : Secured) → AttestationInside at end r → r ≡ Secured.Is g x → (at < x) × ((x ≤ end) × KnownVersion g.version)
-attestation_known at end g x r i w = subst (AttestationInside at end) w i
+    module _ (m : ℕ × ℕ) (y : ℕ) (e₂ : got (taken m y (slice y end s)) ≡ read_keymint a.0 x (slice x end s)) where
+      pub head_names_no : (k p : ℕ) → refused k p ≡ read_names y (slice y end s) → refused k p ≡ read_head at (slice at end s)
+      unfolding read_head head_after bind
+      head_names_no k p e₃ = rw (← e, ← e₂, ← e₃) refl
 
-pub head-inside : (at end : ℕ) (g : Security) (x : ℕ) (r : Secured) (t : Head) → AttestationInside at end r → r ≡ Secured.Is g x → HeadInside x end t → HeadInside at end t
-head-inside at end g x r (Head.Is a m c u y) i w l = let j = attestation_known at end g x r i w in (omega (arith, j), l.1)
-head-inside at end g x r (Head.Refused k p) i w l = tt
+      pub head_is : (n : Place × Place) (z : ℕ) → got (taken n z (slice z end s)) ≡ read_names y (slice y end s) → got (taken (heading a m n) z (slice z end s)) ≡ read_head at (slice at end s)
+      unfolding read_head head_after bind
+      head_is n z e₃ = rw (← e, ← e₂, ← e₃) refl
+
+pub bind-same : {A : Type 0} (M : Answer A) → bind M (λ w. got w) ≡ M
+unfolding bind
+bind-same (got a) = refl
+bind-same (refused k p) = refl
 
 -- ---- the eight: the six, and two lists
 

@@ -1,12 +1,11 @@
+pub mod Exact
 pub mod Open
 pub mod Spelled
 pub mod Leaves
 pub mod Chains
 pub mod Members
-pub mod Exact
-pub mod Kept
-pub mod Contents
 pub mod Roots
 pub mod Heads
 pub mod Shorts
-pub mod Clipped
+pub mod Contents
+pub mod Kept

@@ -1,25 +1,27 @@
 -- An element opened, as the code answers it; and that each reader of the schema is an element opened and then its
 -- content. Assumes nothing.
-use mathlib.Core.Path.{◌≡◌, refl, subst, ◌∙◌}
+use mathlib.Core.Path.{◌≡◌, refl, ◌∙◌}
 use mathlib.Core.Bool.{Bool, true, false, ◌&&◌}
 use mathlib.Core.List.{List}
-use Prim.Native.Nat.{ℕ, ◌+◌, ◌<◌, ◌≤◌}
+use Prim.Native.Nat.{ℕ, ◌+◌, ◌-◌, ◌<◌, ◌≤◌}
+use native.Mathlib.Nat.{le_refl}
 use native.Mathlib.Omega.{arith}
 use lib.Dec.{ltb, eqb}
 use lib.ListN.{length, take, drop, length-take, length-drop}
-use lib.Seq.{slice, length-slice}
+use lib.Seq.{slice, length-slice, take-length}
 use borrow.Author.Tests.{lt-ltb, le-ltb, eq-eqb, ne_eqb}
 use Rattle.answer.specs.Answer.{Answer, got, refused, guard, bind}
 use Rattle.codec.specs.Octets.{Taken, taken}
-use Rattle.codec.specs.Header.{Identifier, identifier, read_header}
+use Rattle.codec.specs.Header.{Identifier, identifier, header, read_header}
 use Rattle.codec.specs.Header as codec
 use Rattle.codec.specs.Element.{element, tagged}
-use Rattle.der.specs.Header.{of_header, HeaderInside}
-use Rattle.der.specs.declared.header.Header.{Header}
 use Rattle.der.proofs.Elements.{rest_part, front_part}
-use Rattle.contents.specs.Element.{Opened, opening, opened, opened_as, of_element, of_tagged, ElementInside, TaggedInside}
-use Rattle.contents.specs.declared.element.Element.{Element}
-use Rattle.contents.specs.declared.element.Tagged.{Tagged}
+use Rattle.contents.specs.Element.{Opened, opening, opened, opened_as}
+
+-- ---- a part of the bytes, as the code lends it
+
+pub span_is : (s : List ℕ) (b x : ℕ) → b ≤ x → x ≤ length s → take (x - b) (drop b s) ≡ slice b x s
+span_is s b x h l = let q : b + (x - b) ≡ x = omega arith in rw q at (rw (take-length s) at (front_part s b (length s) (x - b) (le_refl _) (omega arith)))
 
 -- ---- as the code answers it
 
@@ -31,23 +33,18 @@ module _ (s : List ℕ) (at end : ℕ) where
   unfolding opened element guard
   open_missing h = rw (le-ltb 0 (length (slice at end s)) (omega (arith, length_slice_none at end s h))) refl
 
-  module _ (r : Header) (fit : end ≤ length s) (h : at < end) (e : of_header s end r ≡ read_header at (slice at end s)) where
+  module _ (fit : end ≤ length s) (h : at < end) where
     some : ltb 0 (length (slice at end s)) ≡ true
     some = lt-ltb 0 (length (slice at end s)) (omega (arith, length-slice at end s fit))
 
-    pub open_no : (k p : ℕ) → r ≡ Header.Refused k p → refused k p ≡ opened at (slice at end s)
+    pub open_no : (k p : ℕ) → refused k p ≡ read_header at (slice at end s) → refused k p ≡ opened at (slice at end s)
     unfolding opened element guard bind
-    open_no k p w = rw (some, ← e, w) refl
+    open_no k p e = rw (some, ← e) refl
 
-    pub open_is : (f n z b : ℕ) → HeaderInside at end r → r ≡ Header.Is f n z b
+    pub open_is : (f n z b : ℕ) → got (taken (header (identifier f n) z) b (slice b end s)) ≡ read_header at (slice at end s) → b + z ≤ end
         → got (taken (opening (identifier f n) b (slice b (b + z) s)) (b + z) (slice (b + z) end s)) ≡ opened at (slice at end s)
     unfolding opened element guard bind
-    open_is f n z b i w =
-        let j : (at < b) × (b + z ≤ end) = subst (HeaderInside at end) w i in
-        rw (some, ← e, w, rest_part, front_part s b end z fit j.1) refl
-
-pub header-inside : (at end f n z b : ℕ) (r : Header) → HeaderInside at end r → r ≡ Header.Is f n z b → (at < b) × (b + z ≤ end)
-header-inside at end f n z b r i w = subst (HeaderInside at end) w i
+    open_is f n z b e j = rw (some, ← e, rest_part, front_part s b end z fit j) refl
 
 -- ---- an element, and then its content
 
@@ -69,29 +66,23 @@ module _ {A : Type 0} (content : Identifier → ℕ → ℕ → List ℕ → Ans
 
 -- ---- an element of a known identifier
 
-module _ (s : List ℕ) (at end form number : ℕ) (r : Element) (e : of_element s end r ≡ opened at (slice at end s)) where
-  pub tagged_no : (k p : ℕ) → r ≡ Element.Refused k p → refused k p ≡ opened_as form number at (slice at end s)
+module _ (s : List ℕ) (at end form number : ℕ) where
+  pub tagged_no : (k p : ℕ) → refused k p ≡ opened at (slice at end s) → refused k p ≡ opened_as form number at (slice at end s)
   unfolding opened_as tagged bind
-  tagged_no k p w = rw (element_open, ← e, w) refl
+  tagged_no k p e = rw (element_open, ← e) refl
 
-  module _ (f n b x : ℕ) (w : r ≡ Element.Is f n b x) where
+  module _ (f n b x : ℕ) (e : got (taken (opening (identifier f n) b (slice b x s)) x (slice x end s)) ≡ opened at (slice at end s)) where
     pub tagged-form : (f ≡ form → ⊥) → refused 9 at ≡ opened_as form number at (slice at end s)
     unfolding opened_as tagged content_after bind guard
-    tagged-form h = rw (element_open, ← e, w, ne_eqb f form h) refl
+    tagged-form h = rw (element_open, ← e, ne_eqb f form h) refl
 
     pub tagged-number : f ≡ form → (n ≡ number → ⊥) → refused 9 at ≡ opened_as form number at (slice at end s)
     unfolding opened_as tagged content_after bind guard
-    tagged-number h l = rw (element_open, ← e, w, eq-eqb f form h, ne_eqb n number l) refl
+    tagged-number h l = rw (element_open, ← e, eq-eqb f form h, ne_eqb n number l) refl
 
     pub tagged_is : f ≡ form → n ≡ number → got (taken (b, slice b x s) x (slice x end s)) ≡ opened_as form number at (slice at end s)
     unfolding opened_as tagged content_after bind guard
-    tagged_is h l = rw (element_open, ← e, w, eq-eqb f form h, eq-eqb n number l) refl
-
-pub element-inside : (at end f n b x : ℕ) (r : Element) → ElementInside at end r → r ≡ Element.Is f n b x → (at < b) × ((b ≤ x) × (x ≤ end))
-element-inside at end f n b x r i w = subst (ElementInside at end) w i
-
-pub tagged-inside : (at end b x : ℕ) (r : Tagged) → TaggedInside at end r → r ≡ Tagged.Is b x → (at < b) × ((b ≤ x) × (x ≤ end))
-tagged-inside at end b x r i w = subst (TaggedInside at end) w i
+    tagged_is h l = rw (element_open, ← e, eq-eqb f form h, eq-eqb n number l) refl
 
 -- its reader is the element opened and then its content
 module _ {A : Type 0} (content : ℕ → ℕ → List ℕ → Answer A) (p form number : ℕ) where
@@ -115,11 +106,12 @@ module _ {A : Type 0} (content : ℕ → ℕ → List ℕ → Answer A) (p form 
   unfolding opened_as tagged
   tagged_open bs = rw (element_open, element_open) (same_tag (opened p bs))
 
-  module _ (s : List ℕ) (end : ℕ) (r : Tagged) (e : of_tagged s end r ≡ opened_as form number p (slice p end s)) where
-    pub leaf_no : (k q : ℕ) → r ≡ Tagged.Refused k q → tagged 9 (identifier form number) content p (slice p end s) ≡ refused k q
+  module _ (s : List ℕ) (end : ℕ) where
+    pub leaf_no : (k q : ℕ) → refused k q ≡ opened_as form number p (slice p end s) → refused k q ≡ tagged 9 (identifier form number) content p (slice p end s)
     unfolding bind
-    leaf_no k q w = rw (tagged_open, ← e, w) refl
+    leaf_no k q e = rw (tagged_open, ← e) refl
 
-    pub leaf_is : (b x : ℕ) → r ≡ Tagged.Is b x → tagged 9 (identifier form number) content p (slice p end s) ≡ bind (content p b (slice b x s)) (λ a. got (taken a x (slice x end s)))
+    pub leaf_is : (b x : ℕ) → got (taken (b, slice b x s) x (slice x end s)) ≡ opened_as form number p (slice p end s)
+        → bind (content p b (slice b x s)) (λ a. got (taken a x (slice x end s))) ≡ tagged 9 (identifier form number) content p (slice p end s)
     unfolding bind after_tagged
-    leaf_is b x w = rw (tagged_open, ← e, w) refl
+    leaf_is b x e = rw (tagged_open, ← e) refl

@@ -1,195 +1,131 @@
--- What is read to the end of its holder (`exactly`), member by member; and field 704's content so read. Assumes nothing.
-use mathlib.Core.Path.{◌≡◌, refl, sym, ap, subst, ◌∙◌}
-use mathlib.Core.Bool.{Bool, true, false, not}
-use mathlib.Core.Option.{Option, none, some}
+-- Field 704's content, member by member, and all of it (`exactly`). Assumes nothing.
+use mathlib.Core.Path.{◌≡◌, refl}
+use mathlib.Core.Bool.{Bool, true, false}
 use mathlib.Core.List.{List}
-use Prim.Native.Nat.{ℕ, ◌+◌, ◌<◌, ◌≤◌}
+use Prim.Native.Nat.{ℕ, ◌≤◌}
 use native.Mathlib.Omega.{arith}
-use lib.Dec.{eqb}
 use lib.ListN.{length}
 use lib.Seq.{slice}
-use borrow.Author.Tests.{lt-ltb, le-ltb, not-true, not-false}
-use Rattle.answer.specs.Answer.{Answer, got, refused, guard, bind, pick}
-use Rattle.answer.proofs.Logic.{by_le}
-use Rattle.codec.specs.Octets.{Taken, taken}
+use Rattle.std.specs.Prelude.{Option, Some, None, Result}
+use Rattle.std.specs.Option.{unwrap_or}
+use Rattle.answer.specs.Answer.{got, refused, bind, pick, answer_of}
+use Rattle.answer.specs.declared.Refused.{Refused}
+use Rattle.codec.specs.Octets.{taken}
 use Rattle.codec.specs.Element.{exactly, both}
-use Rattle.schema.specs.Decode.{read_octets, read_boolean, read_enumerated, read_hash, root_from, root_parts, read_root, as_place}
 use Rattle.schema.specs.Content.{Place, place_at}
+use Rattle.schema.specs.Decode.{read_octets, read_boolean, read_enumerated, read_hash, RootParts, root_from, root_parts, read_root, as_place}
 use Rattle.records.specs.Content.{root_of}
 use Rattle.records.specs.declared.Part.{Part}
 use Rattle.records.specs.declared.RootOfTrust.{RootOfTrust}
-use Rattle.contents.specs.Element.{opened_as, of_tagged, TaggedInside}
-use Rattle.contents.specs.Leaf.{read_number, of_number, of_boolean, of_octets, OctetsInside}
-use Rattle.contents.specs.Root.{trust_of, of_trust, of_root, trust_from, locked_from, state_from, hash_from, root_end, HashedAs, PartsIn, RootAt, RootInside}
-use Rattle.contents.specs.declared.element.Tagged.{Tagged}
-use Rattle.contents.specs.declared.leaf.Number.{Number}
-use Rattle.contents.specs.declared.leaf.Octets.{Octets}
-use Rattle.contents.specs.declared.root.Root.{Root}
-use Rattle.contents.proofs.Exact.{exactly_extra, exactly-is}
-use Rattle.contents.proofs.Open.{leaf_no, leaf_is, tagged-inside}
-
--- the first of two, and then exactly the second; f puts them with what was read before
-module _ {A B C : Type 0} (rd : ℕ → List ℕ → Answer (Taken A)) (rd' : A → ℕ → List ℕ → Answer (Taken B)) (f : A × B → C) where
-  abbrev after_first : Taken A → Answer C
-  after_first a = bind (exactly 9 (rd' a.val) a.next a.rest) λ b. got (f (a.val, b))
-
-  ended : (a : A) (b : B) (t : Bool) (x : ℕ) → bind (guard t 9 x (got (a, b))) (λ w. got (f w)) ≡ bind (guard t 9 x (got b)) (λ b. got (f (a, b)))
-  unfolding bind guard
-  ended a b true x = refl
-  ended a b false x = refl
-
-  second : (a : A) (M : Answer (Taken B))
-      → bind (bind (bind M λ b. got (taken (a, b.val) b.next b.rest)) λ w. guard (eqb (length w.rest) 0) 9 w.next (got w.val)) (λ w. got (f w))
-      ≡ bind (bind M λ w. guard (eqb (length w.rest) 0) 9 w.next (got w.val)) (λ b. got (f (a, b)))
-  unfolding bind
-  second a (got b) = ended a b.val (eqb (length b.rest) 0) b.next
-  second a (refused k p) = refl
-
-  first : (M : Answer (Taken A))
-      → bind (bind (bind M λ a. bind (rd' a.val a.next a.rest) λ b. got (taken (a.val, b.val) b.next b.rest)) λ w. guard (eqb (length w.rest) 0) 9 w.next (got w.val)) (λ w. got (f w))
-      ≡ bind M after_first
-  unfolding bind exactly
-  first (got a) = second a.val (rd' a.val a.next a.rest)
-  first (refused k p) = refl
-
-  pub exactly-both : (p : ℕ) (bs : List ℕ) → bind (exactly 9 (both rd rd') p bs) (λ w. got (f w)) ≡ bind (rd p bs) after_first
-  unfolding exactly both
-  exactly-both p bs = first (rd p bs)
-
-pub bind-same : {A : Type 0} (M : Answer A) → bind M (λ w. got w) ≡ M
-unfolding bind
-bind-same (got a) = refl
-bind-same (refused k p) = refl
-
--- ---- a root of trust
+use Rattle.contents.specs.Element.{opened_as}
+use Rattle.contents.specs.Leaf.{read_number, PartBefore}
+use Rattle.contents.specs.Root.{place_of, trust_of, trust_from, HashedAs, HashIs, PartsIn}
+use Rattle.contents.specs.Taken.{exactly_taken}
+use Rattle.contents.specs.declared.taken.Taken.{Taken}
+use Rattle.contents.proofs.Exact.{exactly_no_taken, exactly_as}
+use Rattle.contents.proofs.Open.{leaf_no, leaf_is}
 
 pub root-value : (r : RootOfTrust) → root_from (trust_of r) ≡ root_of place_at r
 root-value r = refl
 
-module _ (h : Bool) (p : ℕ) (bs : List ℕ) where
-  trust-first : trust_from h p bs ≡ bind (read_octets as_place p bs) λ w. locked_from h w.val w.next w.rest
-  unfolding trust_from locked_from root_parts
-  trust-first = sym (bind-same (exactly 9 (root_parts as_place h) p bs)) ∙ exactly-both (read_octets as_place) (λ k. both read_boolean λ b. both (read_enumerated 3) λ n. read_hash as_place h) (λ w. w) p bs
+-- ---- the hash, where there is to be one
 
-  locked-first : (k : Place) → locked_from h k p bs ≡ bind (read_boolean p bs) λ w. state_from h k w.val w.next w.rest
-  unfolding locked_from state_from
-  locked-first k = exactly-both read_boolean (λ b. both (read_enumerated 3) λ n. read_hash as_place h) (λ t. (k, t)) p bs
-
-  state-first : (k : Place) (b : Bool) → state_from h k b p bs ≡ bind (read_enumerated 3 p bs) λ w. hash_from h k b w.val w.next w.rest
-  unfolding state_from hash_from
-  state-first k b = exactly-both (read_enumerated 3) (λ n. read_hash as_place h) (λ t. (k, (b, t))) p bs
-
--- each member, as the code meets it
 module _ (s : List ℕ) (at end : ℕ) (h : Bool) where
-  module _ (r : Octets) (e : of_octets s end r ≡ read_octets as_place at (slice at end s)) where
-    pub trust_no : (k p : ℕ) → r ≡ Octets.Refused k p → refused k p ≡ trust_from h at (slice at end s)
-    unfolding bind
-    trust_no k p w = rw (trust-first, ← e, w) refl
+  pub hash_none : h ≡ false → got (taken (place_of None) at (slice at end s)) ≡ read_hash as_place h at (slice at end s)
+  unfolding read_hash
+  hash_none u = rw u refl
 
-    pub trust-is : (b n x : ℕ) (t : Root) → r ≡ Octets.Is b n x → of_trust t ≡ locked_from h (place_at b n) x (slice x end s) → of_trust t ≡ trust_from h at (slice at end s)
-    unfolding bind
-    trust-is b n x t w q = rw (trust-first, ← e, w) q
+  pub hash_no : h ≡ true → (k p : ℕ) → refused k p ≡ read_octets as_place at (slice at end s) → refused k p ≡ read_hash as_place h at (slice at end s)
+  unfolding read_hash bind
+  hash_no u k p e = rw (u, ← e) refl
 
-  module _ (key : Place) (r : Number) where
-    module _ (e : of_boolean s end r ≡ read_boolean at (slice at end s)) where
-      pub locked_no : (k p : ℕ) → r ≡ Number.Refused k p → refused k p ≡ locked_from h key at (slice at end s)
-      unfolding bind
-      locked_no k p w = rw (locked-first, ← e, w) refl
+  pub hash_some : h ≡ true → (q : Part) (x : ℕ) → got (taken (place_at q.start q.len) x (slice x end s)) ≡ read_octets as_place at (slice at end s)
+      → got (taken (place_of (Some q)) x (slice x end s)) ≡ read_hash as_place h at (slice at end s)
+  unfolding read_hash bind
+  hash_some u q x e = rw (u, ← e) refl
 
-      pub locked-is : (n x : ℕ) (t : Root) → r ≡ Number.Is n x → of_trust t ≡ state_from h key (eqb n 1) x (slice x end s) → of_trust t ≡ locked_from h key at (slice at end s)
-      unfolding bind
-      locked-is n x t w q = rw (locked-first, ← e, w) q
+pub hash_is_none : (end : ℕ) (h : Bool) → h ≡ false → HashIs end h None
+hash_is_none end h u = rw u tt
 
-    module _ (b : Bool) (e : of_number s end r ≡ read_number 10 3 at (slice at end s)) where
-      pub state_no : (k p : ℕ) → r ≡ Number.Refused k p → refused k p ≡ state_from h key b at (slice at end s)
-      unfolding bind read_enumerated read_number
-      state_no k p w = rw (state-first, ← e, w) refl
+pub hash_is_some : (end : ℕ) (h : Bool) (q : Part) → h ≡ true → PartBefore end q → HashIs end h (Some q)
+hash_is_some end h q u i = rw u i
 
-      pub state-is : (n x : ℕ) (t : Root) → r ≡ Number.Is n x → of_trust t ≡ hash_from h key b n x (slice x end s) → of_trust t ≡ state_from h key b at (slice at end s)
-      unfolding bind read_enumerated read_number
-      state-is n x t w q = rw (state-first, ← e, w) q
+-- ---- the four, one after the other
 
--- ---- the end
+module _ (s : List ℕ) (at end : ℕ) (h : Bool) (fit : end ≤ length s) where
+  pub key_no : (k p : ℕ) → refused k p ≡ read_octets as_place at (slice at end s) → refused k p ≡ trust_from h at (slice at end s)
+  unfolding trust_from exactly root_parts both bind
+  key_no k p e = rw (← e) refl
 
-module _ (root : RootOfTrust) (at end : ℕ) where
-  pub end_extra : at < end → Root.Refused 9 at ≡ root_end root at end
+  module _ (key : Place) (x : ℕ) (e : got (taken key x (slice x end s)) ≡ read_octets as_place at (slice at end s)) where
+    pub locked_no : (k p : ℕ) → refused k p ≡ read_boolean x (slice x end s) → refused k p ≡ trust_from h at (slice at end s)
+    unfolding trust_from exactly root_parts both bind
+    locked_no k p e₂ = rw (← e, ← e₂) refl
+
+    module _ (b : Bool) (y : ℕ) (e₂ : got (taken b y (slice y end s)) ≡ read_boolean x (slice x end s)) where
+      pub state_no : (k p : ℕ) → refused k p ≡ read_number 10 3 y (slice y end s) → refused k p ≡ trust_from h at (slice at end s)
+      unfolding trust_from exactly root_parts both bind read_enumerated read_number
+      state_no k p e₃ = rw (← e, ← e₂, ← e₃) refl
+
+      module _ (n z : ℕ) (e₃ : got (taken n z (slice z end s)) ≡ read_number 10 3 y (slice y end s)) where
+        parts_no : (k p : ℕ) → refused k p ≡ read_hash as_place h z (slice z end s) → refused k p ≡ root_parts as_place h at (slice at end s)
+        unfolding root_parts both bind read_enumerated read_number
+        parts_no k p e₄ = rw (← e, ← e₂, ← e₃, ← e₄) refl
+
+        parts_of : Option Part → RootParts Place
+        parts_of v = (key, (b, (n, place_of v)))
+
+        parts_is : (v : Option Part) (w : ℕ) → got (taken (place_of v) w (slice w end s)) ≡ read_hash as_place h z (slice z end s)
+            → got (taken (key, (b, (n, place_of v))) w (slice w end s)) ≡ root_parts as_place h at (slice at end s)
+        unfolding root_parts both bind read_enumerated read_number
+        parts_is v w e₄ = rw (← e, ← e₂, ← e₃, ← e₄) refl
+
+        pub hash_refused : (k p : ℕ) → refused k p ≡ read_hash as_place h z (slice z end s) → refused k p ≡ trust_from h at (slice at end s)
+        unfolding trust_from
+        hash_refused k p e₄ = exactly_no_taken (λ (v : RootParts Place). v) (root_parts as_place h) s at end fit k p (parts_no k p e₄)
+
+        -- the hash, and the end
+        pub trust_ends : (w : Taken (Option Part)) (r : Result (Option Part) Refused) → got (taken (place_of w.val) w.next (slice w.next end s)) ≡ read_hash as_place h z (slice z end s)
+            → w.next ≤ end → r ≡ exactly_taken w end → answer_of (λ v. (key, (b, (n, place_of v)))) r ≡ trust_from h at (slice at end s)
+        unfolding trust_from
+        trust_ends w r e₄ l q = exactly_as (λ v. (key, (b, (n, place_of v)))) (root_parts as_place h) s at end fit w r (parts_is w.val w.next e₄) l q
+
+-- ---- as a record
+
+abbrev pub root_with : Part → Bool → ℕ → Bool → Part → RootOfTrust
+root_with key b n h p = record { key = key; hash = p; state = n; locked = b; hashed = h }
+
+nowhere : Part
+nowhere = record { start = 0; len = 0 }
+
+module _ (end : ℕ) (key : Part) (b : Bool) (n : ℕ) where
+  pub trust_is : (h : Bool) (v : Option Part) → HashIs end h v
+      → trust_of (root_with key b n h (unwrap_or v (record { start = 0; len = 0 }))) ≡ (place_at key.start key.len, (b, (n, place_of v)))
   unfolding pick
-  end_extra h = rw (lt-ltb at end h) refl
+  trust_is true (Some p) i = refl
+  trust_is true None i = absurd i
+  trust_is false (Some p) i = absurd i
+  trust_is false None i = refl
 
-  pub end_is : end ≤ at → Root.Is root end ≡ root_end root at end
-  unfolding pick
-  end_is h = rw (le-ltb at end h) refl
-
-  pub end_inside : (h : Bool) (t : Root) → PartsIn end root → HashedAs h root → t ≡ root_end root at end → RootAt end h t
-  end_inside h t i j e =
-      by_le end at
-      (λ l. subst (RootAt end h) (end_is l ∙ sym e) (refl, (i, j)))
-      (λ l. subst (RootAt end h) (end_extra l ∙ sym e) tt)
-
--- the last member, as any reader of it
-module _ (h : Bool) (s : List ℕ) (at end : ℕ) (fit : end ≤ length s) (root : RootOfTrust) (v : Option Place) (x : ℕ) (t : Root) where
-  hash-last : x ≤ end → read_hash as_place h at (slice at end s) ≡ got (taken v x (slice x end s)) → t ≡ root_end root x end
-      → trust_of root ≡ (place_at root.key.start root.key.len, (root.locked, (root.state, v)))
-      → of_trust t ≡ hash_from h (place_at root.key.start root.key.len) root.locked root.state at (slice at end s)
-  unfolding hash_from bind
-  hash-last i e q u =
-      by_le end x
-      (λ l. rw (q, ← end_is root x end l, exactly-is (read_hash as_place h) at s end v x e (omega arith)) (ap got u))
-      (λ l. rw (q, ← end_extra root x end l, exactly_extra (read_hash as_place h) at s end v x e fit l) refl)
-
--- ---- the hash
-
-pub octets-inside : (at end b n x : ℕ) (r : Octets) → OctetsInside at end r → r ≡ Octets.Is b n x → (at < x) × ((x ≤ end) × (b + n ≤ end))
-octets-inside at end b n x r i w = subst (OctetsInside at end) w i
-
-abbrev root_with : Part → Bool → ℕ → Bool → ℕ → ℕ → RootOfTrust
-root_with key b n h p z = record { key = key; locked = b; state = n; hashed = h; hash = record { start = p; len = z } }
-
-module _ (s : List ℕ) (at end : ℕ) (h : Bool) (key : Part) (b : Bool) (n : ℕ) where
-  module _ (t : Root) (u : not h ≡ true) (e : t ≡ root_end (root_with key b n false 0 0) at end) where
-    pub hash-none : end ≤ length s → at ≤ end → of_trust t ≡ hash_from h (place_at key.start key.len) b n at (slice at end s)
-    unfolding read_hash pick
-    hash-none fit l = rw (not-true h u) (hash-last false s at end fit (root_with key b n false 0 0) none at t l refl e refl)
-
-    pub hash-none-inside : key.start + key.len ≤ end → RootAt end h t
-    hash-none-inside i = rw (not-true h u) (end_inside (root_with key b n false 0 0) at end false t (i, omega arith) (refl, refl) e)
-
-  module _ (r : Octets) (u : not h ≡ false) where
-    module _ (e : of_octets s end r ≡ read_octets as_place at (slice at end s)) where
-      pub hash_no : (k p : ℕ) → r ≡ Octets.Refused k p → refused k p ≡ hash_from h (place_at key.start key.len) b n at (slice at end s)
-      unfolding hash_from exactly read_hash bind
-      hash_no k p w = rw (not-false h u, ← e, w) refl
-
-      pub hash-is : (p z x : ℕ) (t : Root) → end ≤ length s → OctetsInside at end r → r ≡ Octets.Is p z x → t ≡ root_end (root_with key b n true p z) x end
-          → of_trust t ≡ hash_from h (place_at key.start key.len) b n at (slice at end s)
-      unfolding read_hash bind pick
-      hash-is p z x t fit i w q =
-          let j = octets-inside at end p z x r i w in
-          rw (not-false h u) (hash-last true s at end fit (root_with key b n true p z) (some (place_at p z)) x t j.1.0 (rw (← e, w) refl) q refl)
-
-    pub hash-inside : (p z x : ℕ) (t : Root) → key.start + key.len ≤ end → OctetsInside at end r → r ≡ Octets.Is p z x → t ≡ root_end (root_with key b n true p z) x end → RootAt end h t
-    hash-inside p z x t k i w q =
-        let j = octets-inside at end p z x r i w in
-        rw (not-false h u) (end_inside (root_with key b n true p z) x end true t (k, j.1.1) refl q)
+  pub trust_kept : (h : Bool) (v : Option Part) → PartBefore end key → HashIs end h v
+      → PartsIn end (root_with key b n h (unwrap_or v (record { start = 0; len = 0 }))) × HashedAs h (root_with key b n h (unwrap_or v (record { start = 0; len = 0 })))
+  trust_kept true (Some p) k i = ((k, i), refl)
+  trust_kept true None k i = absurd i
+  trust_kept false (Some p) k i = absurd i
+  trust_kept false None k i = ((k, omega arith), (refl, refl))
 
 -- ---- the SEQUENCE
 
-module _ (s : List ℕ) (at end : ℕ) (h : Bool) (r : Tagged) (e : of_tagged s end r ≡ opened_as 1 16 at (slice at end s)) where
-  pub root_no : (k p : ℕ) → r ≡ Tagged.Refused k p → refused k p ≡ read_root as_place h at (slice at end s)
+module _ (s : List ℕ) (at end : ℕ) (h : Bool) where
+  pub root_no : (k p : ℕ) → refused k p ≡ opened_as 1 16 at (slice at end s) → refused k p ≡ read_root as_place h at (slice at end s)
   unfolding read_root
-  root_no k p w = sym (leaf_no _ at 1 16 s end r e k p w)
+  root_no k p e = leaf_no _ at 1 16 s end k p e
 
-  trust_as_root : (b x : ℕ) (t : Root) → of_trust t ≡ trust_from h b (slice b x s) → RootAt x h t → of_root s end t ≡ bind (trust_from h b (slice b x s)) (λ a. got (taken a x (slice x end s)))
-  unfolding bind
-  trust_as_root b x (Root.Is g y) q i = rw (← q, i.0) refl
-  trust_as_root b x (Root.Refused k p) q i = rw (← q) refl
+  module _ (b x : ℕ) (e : got (taken (b, slice b x s) x (slice x end s)) ≡ opened_as 1 16 at (slice at end s)) where
+    pub root_trust_no : (k p : ℕ) → refused k p ≡ trust_from h b (slice b x s) → refused k p ≡ read_root as_place h at (slice at end s)
+    unfolding read_root trust_from bind
+    root_trust_no k p q = rw (← q) at (leaf_is (λ p q bs. exactly 9 (root_parts as_place h) q bs) at 1 16 s end b x e)
 
-  pub root_is_lem : (b x : ℕ) (t : Root) → r ≡ Tagged.Is b x → of_trust t ≡ trust_from h b (slice b x s) → RootAt x h t → of_root s end t ≡ read_root as_place h at (slice at end s)
-  unfolding read_root trust_from
-  root_is_lem b x t w q i = trust_as_root b x t q i ∙ sym (leaf_is _ at 1 16 s end r e b x w)
-
-pub root-inside : (at end : ℕ) (h : Bool) (r : Tagged) (b x : ℕ) (t : Root) → TaggedInside at end r → r ≡ Tagged.Is b x → RootAt x h t → RootInside at end h t
-root-inside at end h r b x (Root.Is g y) i w q =
-    let j = tagged-inside at end b x r i w in
-    (omega (arith, j), (omega (arith, j), ((omega (arith, j), omega (arith, j)), q.1.1)))
-root-inside at end h r b x (Root.Refused k p) i w q = tt
+    pub root_is_lem : (t : RootOfTrust) → got (trust_of t) ≡ trust_from h b (slice b x s) → got (taken (trust_of t) x (slice x end s)) ≡ read_root as_place h at (slice at end s)
+    unfolding read_root trust_from bind
+    root_is_lem t q = rw (← q) at (leaf_is (λ p q bs. exactly 9 (root_parts as_place h) q bs) at 1 16 s end b x e)

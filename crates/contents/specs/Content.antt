@@ -1,6 +1,8 @@
 -- What a field's content, as the code answers it, says in the definitions' terms.
-use Rattle.std.specs.Prelude.{◌≡◌, Bool, true, false, List, ℕ, eqb}
-use Rattle.answer.specs.Answer.{Answer, got, refused, pick}
+use Rattle.std.specs.Prelude.{◌≡◌, Bool, true, false, List, ℕ, Result, Err}
+use Rattle.answer.specs.Answer.{Answer, answer_of}
+use Rattle.answer.specs.declared.Refusal.{Refusal}
+use Rattle.answer.specs.declared.Refused.{Refused}
 use Rattle.schema.specs.Table.{Kind, set, number32, number64, null, octets, root}
 use Rattle.schema.specs.Content.{ValueWith, num, nul, oct, nums, trust, Place, place_at}
 use Rattle.schema.specs.Decode.{read_value, as_place}
@@ -8,10 +10,6 @@ use Rattle.records.specs.Content.{members_of, root_of}
 use Rattle.records.specs.declared.NumberSet.{NumberSet}
 use Rattle.records.specs.declared.RootOfTrust.{RootOfTrust}
 use Rattle.records.specs.Empty.{empty_set, empty_root}
-use Rattle.contents.specs.Root.{Trust, trust_of}
-use Rattle.contents.specs.declared.content.Fit.{Fit}
-use Rattle.contents.specs.declared.content.SetContent.{SetContent}
-use Rattle.contents.specs.declared.content.RootContent.{RootContent}
 use Rattle.contents.specs.declared.content.Plain.{Plain}
 
 -- a field's content, whatever its kind, as a list keeps it: a number; or a part of the bytes, its start in value; or a set; or
@@ -21,20 +19,6 @@ pub record Stored : Type 0 where
   pub size : ℕ
   pub set : NumberSet
   pub root : RootOfTrust
-
--- the value, of a content that is right and ends where its holder does
-abbrev pub of_fit : {A : Type 0} → Fit → A → Answer A
-of_fit Fit.Whole a = got a
-of_fit (Fit.Refused k p) a = refused k p
-
--- beside a refusal stands an empty set
-abbrev pub refused_set : ℕ → ℕ → SetContent
-refused_set k p = record { fit = Fit.Refused k p; set = empty_set }
-
--- 704's content
-abbrev pub of_root_content : RootContent → Answer Trust
-of_root_content (RootContent.Is r) = got (trust_of r)
-of_root_content (RootContent.Refused k p) = refused k p
 
 -- a content that is a number or a start v, and a length z
 abbrev pub plain_content : ℕ → ℕ → Stored
@@ -52,13 +36,8 @@ content_value root c = trust (root_of place_at c.root)
 -- ---- a plain content
 
 -- what it says, by its number or start and its length
-abbrev pub of_plain : {A : Type 0} → (ℕ → ℕ → A) → Plain → Answer A
-of_plain f (Plain.Is v z) = got (f v z)
-of_plain f (Plain.Refused k p) = refused k p
-
--- past, where nothing follows; else an extra element there
-abbrev pub plain_end : ℕ → ℕ → ℕ → ℕ → Plain
-plain_end v z next end = pick (eqb next end) (Plain.Is v z) (Plain.Refused 9 next)
+abbrev pub of_plain : {A : Type 0} → (ℕ → ℕ → A) → Result Plain Refused → Answer A
+of_plain f = answer_of (λ p. f p.value p.size)
 
 -- all kinds but a set and 704, which are read and stored in ways of their own
 unfoldable pub is_plain : Kind → Bool
@@ -70,6 +49,6 @@ is_plain set = false
 is_plain root = false
 
 -- it is what is read there, in every version; a set and 704 are no plain content, and refused as wrong elements
-pub record PlainRead (kind : Kind) (at : ℕ) (s : List ℕ) (r : Plain) : Type 0 where
+pub record PlainRead (kind : Kind) (at : ℕ) (s : List ℕ) (r : Result Plain Refused) : Type 0 where
   pub is : is_plain kind ≡ true → (v p : ℕ) → of_plain (λ n z. content_value kind (plain_content n z)) r ≡ read_value as_place v kind p at s
-  pub none : is_plain kind ≡ false → r ≡ Plain.Refused 9 at
+  pub none : is_plain kind ≡ false → r ≡ Err (record { 0 = Refusal.WrongElement; 1 = at })

@@ -5,3 +5,4 @@ pub mod Content
 pub mod Root
 pub mod Kept
 pub mod Head
+pub mod Taken

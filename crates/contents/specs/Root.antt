@@ -1,15 +1,19 @@
 -- What the answers for field 704's content say in the definitions' terms, and that content from each of its members on.
-use Rattle.std.specs.Prelude.{◌≡◌, Bool, true, false, List, ℕ, ◌+◌, ◌<◌, ◌≤◌, ltb}
+use Rattle.std.specs.Prelude.{◌≡◌, Bool, true, false, List, ℕ, ◌+◌, ◌≤◌, Option, Some, None, Result, IfOk}
+use Rattle.std.proofs.Math.Option as Math
 use Rattle.std.proofs.Math.Option.{none, some}
-use Rattle.std.proofs.Math.Seq.{slice}
-use Rattle.answer.specs.Answer.{Answer, got, refused, bind, pick}
+use Rattle.answer.specs.Answer.{Answer, answer_of, pick}
 use Rattle.answer.specs.Refusal.{wrong_element}
-use Rattle.codec.specs.Octets.{Taken, taken}
-use Rattle.codec.specs.Element.{exactly, both}
+use Rattle.answer.specs.declared.Refused.{Refused}
+use Rattle.codec.specs.Octets as codec
+use Rattle.codec.specs.Element.{exactly}
 use Rattle.schema.specs.Content.{Place, place_at}
-use Rattle.schema.specs.Decode.{read_boolean, read_enumerated, read_hash, RootParts, root_parts, as_place}
+use Rattle.schema.specs.Decode.{RootParts, root_parts, as_place}
 use Rattle.records.specs.declared.RootOfTrust.{RootOfTrust}
-use Rattle.contents.specs.declared.root.Root.{Root}
+use Rattle.records.specs.declared.Part.{Part}
+use Rattle.contents.specs.Taken.{of_taken, TakenWith}
+use Rattle.contents.specs.Leaf.{PartBefore}
+use Rattle.contents.specs.declared.taken.Taken.{Taken}
 
 -- key, locked, state and hash, as the definitions nest them
 abbrev pub Trust : Type 0
@@ -18,29 +22,23 @@ Trust = RootParts Place
 abbrev pub trust_of : RootOfTrust → Trust
 trust_of r = (place_at r.key.start r.key.len, (r.locked, (r.state, pick r.hashed (some (place_at r.hash.start r.hash.len)) none)))
 
-abbrev pub of_trust : Root → Answer Trust
-of_trust (Root.Is r x) = got (trust_of r)
-of_trust (Root.Refused k p) = refused k p
+abbrev pub of_trust : Result RootOfTrust Refused → Answer Trust
+of_trust = answer_of trust_of
 
-abbrev pub of_root : List ℕ → ℕ → Root → Answer (Taken Trust)
-of_root s end (Root.Is r x) = got (taken (trust_of r) x (slice x end s))
-of_root s end (Root.Refused k p) = refused k p
+abbrev pub of_root : List ℕ → ℕ → Result (Taken RootOfTrust) Refused → Answer (codec.Taken Trust)
+of_root = of_taken trust_of
+
+-- a part where there is one
+abbrev pub place_of : Option Part → Math.Option Place
+place_of (Some p) = some (place_at p.start p.len)
+place_of None = none
+
+abbrev pub of_hash : List ℕ → ℕ → Result (Taken (Option Part)) Refused → Answer (codec.Taken (Math.Option Place))
+of_hash = of_taken place_of
 
 -- "content, then 9 for an extra element": the whole content, and what is left of it after what was read
 unfoldable pub trust_from : Bool → ℕ → List ℕ → Answer Trust
 trust_from h = exactly wrong_element (root_parts as_place h)
-
-unfoldable pub locked_from : Bool → Place → ℕ → List ℕ → Answer Trust
-locked_from h k p bs = bind (exactly wrong_element (both read_boolean λ b. both (read_enumerated 3) λ n. read_hash as_place h) p bs) λ t. got (k, t)
-
-unfoldable pub state_from : Bool → Place → Bool → ℕ → List ℕ → Answer Trust
-state_from h k b p bs = bind (exactly wrong_element (both (read_enumerated 3) λ n. read_hash as_place h) p bs) λ t. got (k, (b, t))
-
-unfoldable pub hash_from : Bool → Place → Bool → ℕ → ℕ → List ℕ → Answer Trust
-hash_from h k b n p bs = bind (exactly wrong_element (read_hash as_place h) p bs) λ t. got (k, (b, (n, t)))
-
-abbrev pub root_end : RootOfTrust → ℕ → ℕ → Root
-root_end r at end = pick (ltb at end) (Root.Refused wrong_element at) (Root.Is r end)
 
 -- the hash is there just where the version has one; else its part is empty, at 0
 abbrev pub HashedAs : Bool → RootOfTrust → Type 0
@@ -51,10 +49,17 @@ HashedAs false r = (r.hashed ≡ false) × (r.hash ≡ record { start = 0; len =
 abbrev pub PartsIn : ℕ → RootOfTrust → Type 0
 PartsIn end r = (r.key.start + r.key.len ≤ end) × (r.hash.start + r.hash.len ≤ end)
 
-abbrev pub RootAt : ℕ → Bool → Root → Type 0
-RootAt end h (Root.Is r x) = (x ≡ end) × (PartsIn end r × HashedAs h r)
-RootAt end h (Root.Refused k p) = Unit {0}
+abbrev pub HashIs : ℕ → Bool → Option Part → Type 0
+HashIs end true (Some p) = PartBefore end p
+HashIs end true None = ⊥
+HashIs end false (Some p) = ⊥
+HashIs end false None = Unit {0}
 
-abbrev pub RootInside : ℕ → ℕ → Bool → Root → Type 0
-RootInside at end h (Root.Is r x) = (at < x) × ((x ≤ end) × (PartsIn end r × HashedAs h r))
-RootInside at end h (Root.Refused k p) = Unit {0}
+abbrev pub HashInside : ℕ → Bool → Result (Taken (Option Part)) Refused → Type 0
+HashInside end h r = IfOk r (λ w. (w.next ≤ end) × HashIs end h w.val)
+
+abbrev pub RootAt : ℕ → Bool → Result RootOfTrust Refused → Type 0
+RootAt end h r = IfOk r (λ t. PartsIn end t × HashedAs h t)
+
+abbrev pub RootInside : ℕ → ℕ → Bool → Result (Taken RootOfTrust) Refused → Type 0
+RootInside at end h = TakenWith (λ t. PartsIn end t × HashedAs h t) at end

@@ -8,3 +8,4 @@ pub mod head;
 pub mod leaf;
 pub mod root;
 pub mod set;
+pub mod taken;

@@ -1,115 +1,58 @@
 // Field 704's content: a boot key, whether it is locked, a boot state and, where the version has one, a boot hash.
-ghost use Rattle.std.specs.Prelude.{◌≡◌, ◌+◌, ◌≤◌, length};
+ghost use Rattle.std.specs.Prelude.{◌≡◌, ◌≤◌, length};
 ghost use Rattle.std.proofs.Math.Seq.{slice};
-ghost use Rattle.schema.specs.Content.{place_at};
-ghost use Rattle.schema.specs.Decode.{read_root, as_place};
-ghost use Rattle.contents.specs.Root.{of_trust, of_root, trust_from, locked_from, state_from, hash_from, root_end, RootAt, RootInside};
+ghost use Rattle.schema.specs.Decode.{read_root, read_hash, as_place};
+ghost use Rattle.contents.specs.Root.{of_hash, of_trust, of_root, trust_from, HashInside, RootAt, RootInside};
 
-use crate::element::{Tagged, tagged_at};
-use crate::leaf::{Number, Octets, read_boolean, read_number, read_octets};
-use answer::WRONG_ELEMENT;
+use crate::element::{Span, open_tagged};
+use crate::leaf::{read_boolean, read_number, read_octets};
+use crate::taken::{Taken, exactly};
+use answer::Refused;
 use records::{Part, RootOfTrust};
 
-// A root of trust and the next place; or a refusal with its place.
-#[derive(Clone, Copy)]
-pub(crate) enum Root {
-    Is(RootOfTrust, usize),
-    Refused(u8, usize),
-}
-
-// All is read: whatever stands before the end is an extra element.
-fn root_end(root: RootOfTrust, at: usize, end: usize) -> Root
-    ensures { result ≡ root_end root at end }
-{
-    if at < end {
-        return Root::Refused(WRONG_ELEMENT, at);
-    }
-    Root::Is(root, end)
-}
-
-// The hash, where there is to be one, and then the end.
-fn read_hash(
-    s: &[u8],
-    at: usize,
-    end: usize,
-    hashed: bool,
-    key: Part,
-    locked: bool,
-    state: u32,
-) -> Root
-    requires { (end ≤ length s.now) × ((at ≤ end) × (key.start + key.len ≤ end)) }
-    ensures is { of_trust result ≡ hash_from hashed (place_at key.start key.len) locked state at (slice at end s.now) }
-    ensures inside { RootAt end hashed result }
+// The hash, where there is to be one.
+fn read_hash(s: &[u8], at: usize, hashed: bool) -> Result<Taken<Option<Part>>, Refused>
+    requires { at ≤ length s.now }
+    ensures is { of_hash s.now (length s.now) result ≡ read_hash as_place hashed at (slice at (length s.now) s.now) }
+    ensures inside { HashInside (length s.now) hashed result }
 {
     if !hashed {
-        let root = RootOfTrust {
-            key,
-            locked,
-            state,
-            hashed: false,
-            hash: Part { start: 0, len: 0 },
-        };
-        return root_end(root, at, end);
+        return Ok(Taken {
+            val: None,
+            next: at,
+        });
     }
-    match read_octets(s, at, end) {
-        Octets::Refused(k, place) => Root::Refused(k, place),
-        Octets::Is { start, len, next } => {
-            let root = RootOfTrust {
-                key,
-                locked,
-                state,
-                hashed: true,
-                hash: Part { start, len },
-            };
-            root_end(root, next, end)
-        }
-    }
+    let hash = read_octets(s, at)?;
+    Ok(Taken {
+        val: Some(hash.val),
+        next: hash.next,
+    })
 }
 
-// The state, and what follows it.
-fn read_state(s: &[u8], at: usize, end: usize, hashed: bool, key: Part, locked: bool) -> Root
-    requires { (end ≤ length s.now) × (key.start + key.len ≤ end) }
-    ensures is { of_trust result ≡ state_from hashed (place_at key.start key.len) locked at (slice at end s.now) }
-    ensures inside { RootAt end hashed result }
+// The key, whether it is locked, the state and the hash: all that is left of the holder.
+fn read_trust(s: &[u8], at: usize, hashed: bool) -> Result<RootOfTrust, Refused>
+    ensures is { of_trust result ≡ trust_from hashed at (slice at (length s.now) s.now) }
+    ensures inside { RootAt (length s.now) hashed result }
 {
-    match read_number(s, at, end, 10, 3) {
-        Number::Refused(k, place) => Root::Refused(k, place),
-        Number::Is(n, next) => read_hash(s, next, end, hashed, key, locked, n as u32),
-    }
-}
-
-// Whether it is locked, and what follows that.
-fn read_locked(s: &[u8], at: usize, end: usize, hashed: bool, key: Part) -> Root
-    requires { (end ≤ length s.now) × (key.start + key.len ≤ end) }
-    ensures is { of_trust result ≡ locked_from hashed (place_at key.start key.len) at (slice at end s.now) }
-    ensures inside { RootAt end hashed result }
-{
-    match read_boolean(s, at, end) {
-        Number::Refused(k, place) => Root::Refused(k, place),
-        Number::Is(n, next) => read_state(s, next, end, hashed, key, n == 1),
-    }
-}
-
-// The key, and what follows it.
-fn read_trust(s: &[u8], at: usize, end: usize, hashed: bool) -> Root
-    requires { end ≤ length s.now }
-    ensures is { of_trust result ≡ trust_from hashed at (slice at end s.now) }
-    ensures inside { RootAt end hashed result }
-{
-    match read_octets(s, at, end) {
-        Octets::Refused(k, place) => Root::Refused(k, place),
-        Octets::Is { start, len, next } => read_locked(s, next, end, hashed, Part { start, len }),
-    }
+    let key = read_octets(s, at)?;
+    let locked = read_boolean(s, key.next)?;
+    let state = read_number(s, locked.next, 10, 3)?;
+    let hash = exactly(read_hash(s, state.next, hashed)?, s.len())?;
+    Ok(RootOfTrust {
+        key: key.val,
+        hash: hash.unwrap_or(Part { start: 0, len: 0 }),
+        state: state.val as u32,
+        locked: locked.val,
+        hashed,
+    })
 }
 
 // A SEQUENCE of them; hashed says whether the version has a boot hash.
-pub(crate) fn read_root(s: &[u8], at: usize, end: usize, hashed: bool) -> Root
-    requires { end ≤ length s.now }
-    ensures is { of_root s.now end result ≡ read_root as_place hashed at (slice at end s.now) }
-    ensures inside { RootInside at end hashed result }
+pub(crate) fn read_root(s: &[u8], at: usize, hashed: bool) -> Result<Taken<RootOfTrust>, Refused>
+    ensures is { of_root s.now (length s.now) result ≡ read_root as_place hashed at (slice at (length s.now) s.now) }
+    ensures inside { RootInside at (length s.now) hashed result }
 {
-    match tagged_at(s, at, end, 1, 16) {
-        Tagged::Refused(k, place) => Root::Refused(k, place),
-        Tagged::Is(body, stop) => read_trust(s, body, stop, hashed),
-    }
+    let Span { body, stop } = open_tagged(s, at, 1, 16)?;
+    let val = read_trust(&s[..stop], body, hashed)?;
+    Ok(Taken { val, next: stop })
 }

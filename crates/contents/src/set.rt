@@ -2,28 +2,16 @@
 ghost use Rattle.std.specs.Prelude.{◌≡◌, ◌≤◌, length};
 ghost use Rattle.std.proofs.Math.Seq.{slice};
 ghost use Rattle.schema.specs.Decode.{read_set};
-ghost use Rattle.contents.specs.Set.{of_members, of_set, members_from, OneMember, set_of_one, PastAt, PastInside};
+ghost use Rattle.contents.specs.Taken.{TakenInside};
+ghost use Rattle.contents.specs.Set.{of_members, of_set, members_from, OneMember, set_of_one};
 ghost use Rattle.records.specs.Empty.{empty_set};
-ghost use Rattle.contents.specs.Kept.{StepSlots};
+ghost use Rattle.contents.specs.Kept.{SetKept, SetTakenKept};
 
-use crate::element::{Tagged, tagged_at};
-use crate::leaf::{Number, read_number};
-use answer::{MEMBER_ORDER, TOO_MANY_MEMBERS};
+use crate::element::{Span, open_tagged};
+use crate::leaf::read_number;
+use crate::taken::Taken;
+use answer::{Refusal, Refused};
 use records::NumberSet;
-
-// The next place; or a refusal with its place.
-#[derive(Clone, Copy)]
-pub enum Step {
-    Past(usize),
-    Refused(u8, usize),
-}
-
-// A set, and the next place; where it is refused, the members up to there.
-#[derive(Clone, Copy)]
-pub(crate) struct SetRead {
-    pub step: Step,
-    pub set: NumberSet,
-}
 
 pub fn empty_set() -> NumberSet
     ensures { result ≡ empty_set }
@@ -34,89 +22,60 @@ pub fn empty_set() -> NumberSet
     }
 }
 
-// The members from at to end: "A member: 14, 9, 10, 13".
-fn read_members(s: &[u8], at: usize, end: usize) -> SetRead
-    requires { (at ≤ end) × (end ≤ length s.now) }
-    ensures is { of_members result.step result.set ≡ members_from at (slice at end s.now) }
-    ensures inside { PastAt end result.step }
-    ensures slots { StepSlots result.step result.set }
+// The members from at to the holder's end: "A member: 14, 9, 10, 13".
+fn read_members(s: &[u8], at: usize) -> Result<NumberSet, Refused>
+    requires { at ≤ length s.now }
+    ensures is { of_members result ≡ members_from at (slice at (length s.now) s.now) }
+    ensures slots { SetKept result }
 {
     let mut set = empty_set();
     let mut place = at;
     let mut low: u64 = 0;
     let mut n: usize = 0;
-    while place < end {
+    while place < s.len() {
         if 16 <= n {
-            return SetRead {
-                step: Step::Refused(TOO_MANY_MEMBERS, place),
-                set,
-            };
+            return Err(Refused(Refusal::TooManyMembers, place));
         }
-        match read_number(s, place, end, 2, 0xffff_ffff) {
-            Number::Refused(k, fault) => {
-                return SetRead {
-                    step: Step::Refused(k, fault),
-                    set,
-                };
-            }
-            Number::Is(x, next) => {
-                if x < low {
-                    return SetRead {
-                        step: Step::Refused(MEMBER_ORDER, place),
-                        set,
-                    };
-                }
-                set.members[n] = x as u32;
-                low = x + 1;
-                n += 1;
-                place = next;
-            }
+        let Taken { val, next } = read_number(s, place, 2, 0xffff_ffff)?;
+        if val < low {
+            return Err(Refused(Refusal::MemberOrder, place));
         }
+        set.members[n] = val as u32;
+        low = val + 1;
+        n += 1;
+        place = next;
     }
     set.count = n;
-    SetRead {
-        step: Step::Past(end),
-        set,
-    }
+    Ok(set)
 }
 
 // A SET OF INTEGER.
-pub(crate) fn read_set(s: &[u8], at: usize, end: usize) -> SetRead
-    requires { end ≤ length s.now }
-    ensures is { of_set s.now end result.step result.set ≡ read_set at (slice at end s.now) }
-    ensures inside { PastInside at end result.step }
-    ensures slots { StepSlots result.step result.set }
+pub(crate) fn read_set(s: &[u8], at: usize) -> Result<Taken<NumberSet>, Refused>
+    ensures is { of_set s.now (length s.now) result ≡ read_set at (slice at (length s.now) s.now) }
+    ensures inside { TakenInside at (length s.now) result }
+    ensures slots { SetTakenKept result }
 {
-    match tagged_at(s, at, end, 1, 17) {
-        Tagged::Refused(k, place) => SetRead {
-            step: Step::Refused(k, place),
-            set: empty_set(),
-        },
-        Tagged::Is(body, stop) => read_members(s, body, stop),
-    }
+    let Span { body, stop } = open_tagged(s, at, 1, 17)?;
+    let val = read_members(&s[..stop], body)?;
+    Ok(Taken { val, next: stop })
 }
 
-// The member of a set of one number below 128, where that is all that stands from at to end; else 128.
-pub(crate) fn one_member(s: &[u8], at: usize, end: usize) -> u8
-    requires { (at ≤ end) × (end ≤ length s.now) }
-    ensures { OneMember s.now at end result }
+// The member of a set of one number below 128, where that is all that stands from at to the holder's end.
+pub(crate) fn one_member(s: &[u8], at: usize) -> Option<u8>
+    ensures { OneMember s.now at (length s.now) result }
 {
-    if end - at != 5 {
-        return 128;
+    let end = s.len();
+    if end < at || end - at != 5 {
+        return None;
     }
-    if s[at] != 49 {
-        return 128;
+    if s[at] != 49 || s[at + 1] != 3 || s[at + 2] != 2 || s[at + 3] != 1 {
+        return None;
     }
-    if s[at + 1] != 3 {
-        return 128;
+    let member = s[at + 4];
+    if 128 <= member {
+        return None;
     }
-    if s[at + 2] != 2 {
-        return 128;
-    }
-    if s[at + 3] != 1 {
-        return 128;
-    }
-    s[at + 4]
+    Some(member)
 }
 
 pub(crate) fn set_of_one(member: u32) -> NumberSet

@@ -1,17 +1,15 @@
--- `null_content` meets its contract: one NULL, and nothing after it. Assumes nothing.
-use Rattle.contents.proofs.Contents.{null_no, null_is}
-use Rattle.contents.proofs.Kept.{null_in}
-use borrow.Author.Rules.{rules}
+-- `null_content` meets its contract: a NULL, and then the end. Assumes nothing.
+use native.Mathlib.Nat.{le_refl}
+use Rattle.answer.proofs.Results.{handed_on}
+use Rattle.schema.specs.Decode.{read_null}
+use Rattle.contents.proofs.Exact.{exactly_no_taken, exactly_as}
 use Rattle.contents.proofs.content.null_content.Goals as goal
 
-pub returns-in-Refused-clause-is : goal.returns-in-Refused-clause-is
-returns-in-Refused-clause-is c = search (null_no, null_is)
+pub returns-in_err-read_null-clause-is : goal.returns-in_err-read_null-clause-is
+returns-in_err-read_null-clause-is c = rw (handed_on _ _ c.from_residual.ensures.1) (exactly_no_taken (λ (u : Unit {0}). u) read_null _ _ _ (le_refl _) _ _ c.in_err-read_null.ensures.is)
 
-pub returns-in-Refused-clause-bounds : goal.returns-in-Refused-clause-bounds
-returns-in-Refused-clause-bounds c = search (rules, null_in)
+pub returns-in_err-exactly-clause-is : goal.returns-in_err-exactly-clause-is
+returns-in_err-exactly-clause-is c = rw (handed_on _ _ c.from_residual-in_err-exactly.ensures.1) (exactly_as (λ (u : Unit {0}). u) read_null _ _ _ (le_refl _) _ _ c.in_ok-read_null.ensures.is c.in_ok-read_null.ensures.inside.1 c.in_err-exactly.ensures)
 
-pub returns-in-Is-clause-is : goal.returns-in-Is-clause-is
-returns-in-Is-clause-is c = search (null_no, null_is)
-
-pub returns-in-Is-clause-bounds : goal.returns-in-Is-clause-bounds
-returns-in-Is-clause-bounds c = search (rules, null_in)
+pub returns-clause-is : goal.returns-clause-is
+returns-clause-is c = exactly_as (λ (u : Unit {0}). u) read_null _ _ _ (le_refl _) _ _ c.in_ok-read_null.ensures.is c.in_ok-read_null.ensures.inside.1 c.in_ok-exactly.ensures

@@ -1,17 +1,22 @@
--- `octets_content` meets its contract: one OCTET STRING, and nothing after it. Assumes nothing.
-use Rattle.contents.proofs.Contents.{octets_no, octets-is}
+-- `octets_content` meets its contract: an OCTET STRING, and then the end. Assumes nothing.
+use native.Mathlib.Nat.{le_refl}
+use Rattle.answer.proofs.Results.{handed_on}
+use Rattle.schema.specs.Content.{place_at}
+use Rattle.schema.specs.Decode.{read_octets, as_place}
+use Rattle.records.specs.declared.Part.{Part}
+use Rattle.contents.specs.Leaf.{PartBefore}
+use Rattle.contents.proofs.Exact.{exactly_no_taken, exactly_as, exactly_kept}
 use Rattle.contents.proofs.Kept.{octets_in_lem}
-use borrow.Author.Rules.{rules}
 use Rattle.contents.proofs.content.octets_content.Goals as goal
 
-pub returns-in-Refused-clause-is : goal.returns-in-Refused-clause-is
-returns-in-Refused-clause-is c = search (octets_no, octets-is)
+pub returns-in_err-read_octets-clause-is : goal.returns-in_err-read_octets-clause-is
+returns-in_err-read_octets-clause-is c = rw (handed_on _ _ c.from_residual.ensures.1) (exactly_no_taken (λ (p : Part). place_at p.start p.len) (read_octets as_place) _ _ _ (le_refl _) _ _ c.in_err-read_octets.ensures.is)
 
-pub returns-in-Refused-clause-bounds : goal.returns-in-Refused-clause-bounds
-returns-in-Refused-clause-bounds c = search (rules, octets_in_lem)
+pub returns-in_err-part-clause-is : goal.returns-in_err-part-clause-is
+returns-in_err-part-clause-is c = rw (handed_on _ _ c.from_residual-in_err-part.ensures.1) (exactly_as (λ (p : Part). place_at p.start p.len) (read_octets as_place) _ _ _ (le_refl _) _ _ c.in_ok-read_octets.ensures.is c.in_ok-read_octets.ensures.inside.1.0 c.in_err-part.ensures)
 
-pub returns-in-Is-clause-is : goal.returns-in-Is-clause-is
-returns-in-Is-clause-is c = search (octets_no, octets-is)
+pub returns-clause-is : goal.returns-clause-is
+returns-clause-is c = exactly_as (λ (p : Part). place_at p.start p.len) (read_octets as_place) _ _ _ (le_refl _) _ _ c.in_ok-read_octets.ensures.is c.in_ok-read_octets.ensures.inside.1.0 c.in_ok-part.ensures
 
-pub returns-in-Is-clause-bounds : goal.returns-in-Is-clause-bounds
-returns-in-Is-clause-bounds c = search (rules, octets_in_lem)
+pub returns-clause-bounds : goal.returns-clause-bounds
+returns-clause-bounds c = octets_in_lem _ _ (exactly_kept (PartBefore _) _ _ _ c.in_ok-read_octets.ensures.inside.1.1 c.in_ok-part.ensures)

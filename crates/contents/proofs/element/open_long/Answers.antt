@@ -1,18 +1,16 @@
--- `open_long` meets its contract: the element of this class, form and number, or 9 at its start. Assumes nothing.
-use Rattle.contents.proofs.Open.{tagged_no, tagged-form, tagged-number, tagged_is, element-inside}
+-- `open_long` meets its contract: the element opened, and then its identifier. Assumes nothing.
+use Rattle.answer.proofs.Results.{handed_on}
+use Rattle.contents.proofs.Open.{tagged_no, tagged-form, tagged-number, tagged_is}
 use Rattle.contents.proofs.element.open_long.Goals as goal
 
-pub returns-then-f-form-clause-is : goal.returns-then-f-form-clause-is
-returns-then-f-form-clause-is c = search (tagged_no, tagged-form, tagged-number)
+pub returns-in_err-element-clause-is : goal.returns-in_err-element-clause-is
+returns-in_err-element-clause-is c = rw (handed_on _ _ c.from_residual.ensures.1) (tagged_no _ _ _ _ _ _ _ c.in_err-element.ensures.is)
 
-pub returns-then-n-number-clause-is : goal.returns-then-n-number-clause-is
-returns-then-n-number-clause-is c = search (tagged_no, tagged-form, tagged-number)
+pub returns-then-element-form-clause-is : goal.returns-then-element-form-clause-is
+returns-then-element-form-clause-is c = tagged-form _ _ _ _ _ _ _ _ _ c.in_ok-element.ensures.is c.if-element-form.true
 
-pub returns-in-Refused-clause-is : goal.returns-in-Refused-clause-is
-returns-in-Refused-clause-is c = search tagged_no
+pub returns-then-element-number-clause-is : goal.returns-then-element-number-clause-is
+returns-then-element-number-clause-is c = tagged-number _ _ _ _ _ _ _ _ _ c.in_ok-element.ensures.is c.if-element-form.false c.if-element-number.true
 
-pub returns-else-n-number-clause-is : goal.returns-else-n-number-clause-is
-returns-else-n-number-clause-is c = search tagged_is
-
-pub returns-else-n-number-clause-inside : goal.returns-else-n-number-clause-inside
-returns-else-n-number-clause-inside c = element-inside c.args.at c.args.end _ _ _ _ _ c.element_at.ensures.inside c.in-Is.is
+pub returns-clause-is : goal.returns-clause-is
+returns-clause-is c = tagged_is _ _ _ _ _ _ _ _ _ c.in_ok-element.ensures.is c.if-element-form.false c.if-element-number.false

@@ -1,9 +1,7 @@
--- `open_tagged` meets its contract: `tagged_at`, for any end. Assumes nothing.
-use Rattle.contents.proofs.Clipped.{tagged_clipped, tagged_more}
+-- `open_tagged` meets its contract: the short way, or the long one. Assumes nothing.
+use native.Mathlib.Nat.{le_refl}
+use Rattle.contents.proofs.Shorts.{tagged-short}
 use Rattle.contents.proofs.element.open_tagged.Goals as goal
 
-pub returns-clause-is : goal.returns-clause-is
-returns-clause-is c = search tagged_clipped
-
-pub returns-clause-inside : goal.returns-clause-inside
-returns-clause-inside c = search tagged_more
+pub returns-in-Some-clause-is : goal.returns-in-Some-clause-is
+returns-in-Some-clause-is c = tagged-short _ _ _ (le_refl _) _ _ _ _ c.in-Some.ensures

@@ -1,21 +1,15 @@
--- `contents::head::read_level` meets its contract: a number of at most 2, beside the version. Assumes nothing.
-use mathlib.Core.Path.{refl}
-use Rattle.contents.proofs.Heads.{level_no, level-is}
-use Rattle.contents.proofs.Members.{number_small, number-inside}
+-- `read_level` meets its contract. Assumes nothing.
 use native.Mathlib.Omega.{arith}
+use Rattle.answer.proofs.Results.{handed_on}
+use Rattle.contents.proofs.Members.{number_small}
+use Rattle.contents.proofs.Heads.{level_no, level-is}
 use Rattle.contents.proofs.head.read_level.Goals as goal
 
-pub overflow_cast-security : goal.overflow_cast-security
-overflow_cast-security c = omega (arith, number_small c.args.s.now c.args.at c.args.end 10 c.args.top _ _ _ c.read_number.ensures.is c.in-Is.is)
+pub returns-in_err-level-clause-is : goal.returns-in_err-level-clause-is
+returns-in_err-level-clause-is c = rw (handed_on _ _ c.from_residual.ensures.1) (level_no _ _ _ _ _ _ _ c.in_err-level.ensures.is)
 
-pub returns-in-Refused-clause-is : goal.returns-in-Refused-clause-is
-returns-in-Refused-clause-is c = search level_no
+pub overflow_cast-result : goal.overflow_cast-result
+overflow_cast-result c = omega (arith, number_small _ _ _ _ _ _ _ c.in_ok-level.ensures.is)
 
-pub returns-in-Refused-clause-inside : goal.returns-in-Refused-clause-inside
-returns-in-Refused-clause-inside c = tt
-
-pub returns-in-Is-clause-is : goal.returns-in-Is-clause-is
-returns-in-Is-clause-is c = search level-is
-
-pub returns-in-Is-clause-inside : goal.returns-in-Is-clause-inside
-returns-in-Is-clause-inside c = let j = number-inside c.args.at c.args.end _ _ _ c.read_number.ensures.inside c.in-Is.is in (j.0, (j.1, refl))
+pub returns-clause-is : goal.returns-clause-is
+returns-clause-is c = level-is _ _ _ _ _ _ _ c.in_ok-level.ensures.is

@@ -1,21 +1,13 @@
--- `contents::head::read_names` meets its contract: one OCTET STRING after the other. Assumes nothing.
-use Rattle.contents.proofs.Heads.{names_no, names_one, names_is, names_inside}
+-- `read_names` meets its contract: two OCTET STRINGs. Assumes nothing.
+use Rattle.answer.proofs.Results.{handed_on}
+use Rattle.contents.proofs.Heads.{names_no, names_one, names_is}
 use Rattle.contents.proofs.head.read_names.Goals as goal
 
-pub returns-in-Refused-clause-is : goal.returns-in-Refused-clause-is
-returns-in-Refused-clause-is c = search names_no
+pub returns-in_err-challenge-clause-is : goal.returns-in_err-challenge-clause-is
+returns-in_err-challenge-clause-is c = rw (handed_on _ _ c.from_residual.ensures.1) (names_no _ _ _ _ _ c.in_err-challenge.ensures.is)
 
-pub returns-in-Refused-clause-inside : goal.returns-in-Refused-clause-inside
-returns-in-Refused-clause-inside c = tt
+pub returns-in_err-unique-clause-is : goal.returns-in_err-unique-clause-is
+returns-in_err-unique-clause-is c = rw (handed_on _ _ c.from_residual-in_err-unique.ensures.1) (names_one _ _ _ _ _ c.in_ok-challenge.ensures.is _ _ c.in_err-unique.ensures.is)
 
-pub returns-in-Refused-read_octets-clause-is : goal.returns-in-Refused-read_octets-clause-is
-returns-in-Refused-read_octets-clause-is c = search names_one
-
-pub returns-in-Refused-read_octets-clause-inside : goal.returns-in-Refused-read_octets-clause-inside
-returns-in-Refused-read_octets-clause-inside c = tt
-
-pub returns-in-Is-read_octets-clause-is : goal.returns-in-Is-read_octets-clause-is
-returns-in-Is-read_octets-clause-is c = search names_is
-
-pub returns-in-Is-read_octets-clause-inside : goal.returns-in-Is-read_octets-clause-inside
-returns-in-Is-read_octets-clause-inside c = search names_inside
+pub returns-clause-is : goal.returns-clause-is
+returns-clause-is c = names_is _ _ _ _ _ c.in_ok-challenge.ensures.is _ _ c.in_ok-unique.ensures.is

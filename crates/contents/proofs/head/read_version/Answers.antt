@@ -1,21 +1,16 @@
--- `contents::head::read_version` meets its contract: a number, and then whether it is known. Assumes nothing.
-use Rattle.contents.proofs.Heads.{version_no, version-is, version_unknown, version-inside}
+-- `read_version` meets its contract: a number, and whether it is known. Assumes nothing.
+use Rattle.answer.proofs.Results.{handed_on}
+use Rattle.contents.proofs.Heads.{version_no, version-is, version_unknown, version_known}
 use Rattle.contents.proofs.head.read_version.Goals as goal
 
-pub returns-then-known_version-clause-is : goal.returns-then-known_version-clause-is
-returns-then-known_version-clause-is c = search version-is
+pub returns-in_err-version-clause-is : goal.returns-in_err-version-clause-is
+returns-in_err-version-clause-is c = rw (handed_on _ _ c.from_residual.ensures.1) (version_no _ _ _ _ _ c.in_err-version.ensures.is)
 
-pub returns-then-known_version-clause-inside : goal.returns-then-known_version-clause-inside
-returns-then-known_version-clause-inside c = version-inside c.args.s.now c.args.at c.args.end _ c.read_number.ensures.is _ _ _ c.in-Is.is c.known_version.ensures c.if-known_version.true c.read_number.ensures.inside
+pub returns-then-not-known_version-clause-is : goal.returns-then-not-known_version-clause-is
+returns-then-not-known_version-clause-is c = version_unknown _ _ _ _ _ c.in_ok-version.ensures.is _ c.known_version.ensures c.if-not-known_version.true
 
-pub returns-in-Refused-clause-is : goal.returns-in-Refused-clause-is
-returns-in-Refused-clause-is c = search version_no
+pub returns-clause-is : goal.returns-clause-is
+returns-clause-is c = version-is _ _ _ _ _ c.in_ok-version.ensures.is _ c.known_version.ensures c.if-not-known_version.false
 
-pub returns-in-Refused-clause-inside : goal.returns-in-Refused-clause-inside
-returns-in-Refused-clause-inside c = tt
-
-pub returns-else-known_version-clause-is : goal.returns-else-known_version-clause-is
-returns-else-known_version-clause-is c = search version_unknown
-
-pub returns-else-known_version-clause-inside : goal.returns-else-known_version-clause-inside
-returns-else-known_version-clause-inside c = tt
+pub returns-clause-inside : goal.returns-clause-inside
+returns-clause-inside c = (c.in_ok-version.ensures.inside.0, (c.in_ok-version.ensures.inside.1, version_known _ _ _ _ _ c.in_ok-version.ensures.is _ c.known_version.ensures c.if-not-known_version.false))

@@ -1,20 +1,15 @@
--- `long_number` meets its contract: an element opened, and its octets as a number or 10. Assumes nothing.
-use native.Mathlib.Omega.{arith}
-use Rattle.contents.proofs.Leaves.{number_no, number_wrong, number_is_lem}
-use Rattle.contents.proofs.Open.{tagged-inside}
+-- `long_number` meets its contract: the element opened, and its content. Assumes nothing.
+use Rattle.std.specs.Prelude.{Ok, Err}
+use Rattle.answer.proofs.Results.{handed_on}
+use Rattle.contents.proofs.Open.{span_is}
+use Rattle.contents.proofs.Leaves.{number_no, number_of_value}
 use Rattle.contents.proofs.leaf.long_number.Goals as goal
 
-pub value_of-requires : goal.value_of-requires
-value_of-requires c = omega (arith, tagged-inside c.args.at c.args.end _ _ _ c.tagged_at.ensures.inside c.in-Is.is)
+pub returns-in_err-body-clause-is : goal.returns-in_err-body-clause-is
+returns-in_err-body-clause-is c = rw (handed_on _ _ c.from_residual.ensures.1) (number_no _ _ _ _ _ _ _ c.in_err-body.ensures.is)
 
-pub returns-in-Refused-clause-is : goal.returns-in-Refused-clause-is
-returns-in-Refused-clause-is c = search number_no
+pub returns-in_err-val-clause-is : goal.returns-in_err-val-clause-is
+returns-in_err-val-clause-is c = rw (handed_on _ _ c.from_residual-in_err-val.ensures.1) (number_of_value _ _ _ _ _ _ _ c.in_ok-body.ensures.is _ (rw (span_is _ _ _ c.in_ok-body.ensures.inside.1.0 c.in_ok-body.ensures.inside.1.1) at c.value_of.ensures) (Err _) c.in_err-val.ensures.value)
 
-pub returns-in-Wrong-clause-is : goal.returns-in-Wrong-clause-is
-returns-in-Wrong-clause-is c = search (number_no, number_wrong)
-
-pub returns-in-Is-value_of-clause-is : goal.returns-in-Is-value_of-clause-is
-returns-in-Is-value_of-clause-is c = search number_is_lem
-
-pub returns-in-Is-value_of-clause-inside : goal.returns-in-Is-value_of-clause-inside
-returns-in-Is-value_of-clause-inside c = omega (arith, tagged-inside c.args.at c.args.end _ _ _ c.tagged_at.ensures.inside c.in-Is.is)
+pub returns-clause-is : goal.returns-clause-is
+returns-clause-is c = number_of_value _ _ _ _ _ _ _ c.in_ok-body.ensures.is _ (rw (span_is _ _ _ c.in_ok-body.ensures.inside.1.0 c.in_ok-body.ensures.inside.1.1) at c.value_of.ensures) (Ok _) c.in_ok-val.ensures.value

@@ -1,41 +1,19 @@
--- `read_boolean` meets its contract: an element opened, and 00 or FF in it or 10. Assumes nothing.
-use native.Mathlib.Omega.{arith}
+-- `read_boolean` meets its contract: one octet, 00 or FF. Assumes nothing.
+use Rattle.answer.proofs.Results.{handed_on}
 use Rattle.contents.proofs.Leaves.{boolean_no, boolean_long, boolean_false, boolean_true, boolean_other}
-use Rattle.contents.proofs.Open.{tagged-inside}
 use Rattle.contents.proofs.leaf.read_boolean.Goals as goal
 
-pub overflow_sub-stop : goal.overflow_sub-stop
-overflow_sub-stop c = (tagged-inside c.args.at c.args.end _ _ _ c.tagged_at.ensures.inside c.in-Is.is).1.0
+pub returns-in_err-body-clause-is : goal.returns-in_err-body-clause-is
+returns-in_err-body-clause-is c = rw (handed_on _ _ c.from_residual.ensures.1) (boolean_no _ _ _ _ _ c.in_err-body.ensures.is)
 
 pub returns-then-stop-body-ne1-clause-is : goal.returns-then-stop-body-ne1-clause-is
-returns-then-stop-body-ne1-clause-is c = search (boolean_no, boolean_long, boolean_other)
-
-pub returns-then-stop-body-ne1-clause-inside : goal.returns-then-stop-body-ne1-clause-inside
-returns-then-stop-body-ne1-clause-inside c = tt
-
-pub bounds-s-body : goal.bounds-s-body
-bounds-s-body c = omega (arith, tagged-inside c.args.at c.args.end _ _ _ c.tagged_at.ensures.inside c.in-Is.is)
+returns-then-stop-body-ne1-clause-is c = boolean_long _ _ _ _ _ c.in_ok-body.ensures.is c.in_ok-body.ensures.inside.1.0 c.in_ok-body.ensures.inside.1.1 c.if-stop-body-ne1.true
 
 pub returns-then-a-eq0-clause-is : goal.returns-then-a-eq0-clause-is
-returns-then-a-eq0-clause-is c = search boolean_false
-
-pub returns-then-a-eq0-clause-inside : goal.returns-then-a-eq0-clause-inside
-returns-then-a-eq0-clause-inside c = omega (arith, tagged-inside c.args.at c.args.end _ _ _ c.tagged_at.ensures.inside c.in-Is.is)
+returns-then-a-eq0-clause-is c = boolean_false _ _ _ _ _ c.in_ok-body.ensures.is c.in_ok-body.ensures.inside.1.0 c.in_ok-body.ensures.inside.1.1 c.if-stop-body-ne1.false c.if-a-eq0.true
 
 pub returns-then-a-clause-is : goal.returns-then-a-clause-is
-returns-then-a-clause-is c = search boolean_true
+returns-then-a-clause-is c = boolean_true _ _ _ _ _ c.in_ok-body.ensures.is c.in_ok-body.ensures.inside.1.0 c.in_ok-body.ensures.inside.1.1 c.if-stop-body-ne1.false c.if-a-eq0.false c.if-a.true
 
-pub returns-then-a-clause-inside : goal.returns-then-a-clause-inside
-returns-then-a-clause-inside c = omega (arith, tagged-inside c.args.at c.args.end _ _ _ c.tagged_at.ensures.inside c.in-Is.is)
-
-pub returns-in-Refused-clause-is : goal.returns-in-Refused-clause-is
-returns-in-Refused-clause-is c = search boolean_no
-
-pub returns-in-Refused-clause-inside : goal.returns-in-Refused-clause-inside
-returns-in-Refused-clause-inside c = tt
-
-pub returns-else-a-clause-is : goal.returns-else-a-clause-is
-returns-else-a-clause-is c = search (boolean_no, boolean_long, boolean_other)
-
-pub returns-else-a-clause-inside : goal.returns-else-a-clause-inside
-returns-else-a-clause-inside c = tt
+pub returns-clause-is : goal.returns-clause-is
+returns-clause-is c = boolean_other _ _ _ _ _ c.in_ok-body.ensures.is c.in_ok-body.ensures.inside.1.0 c.in_ok-body.ensures.inside.1.1 c.if-stop-body-ne1.false c.if-a-eq0.false c.if-a.false

@@ -1,23 +1,13 @@
--- `read_null` meets its contract: an element opened, and no content in it or 10. Assumes nothing.
-use native.Mathlib.Omega.{arith}
+-- `read_null` meets its contract: no content. Assumes nothing.
+use Rattle.answer.proofs.Results.{handed_on}
 use Rattle.contents.proofs.Leaves.{null_no, null_is, null_some}
-use Rattle.contents.proofs.Open.{tagged-inside}
 use Rattle.contents.proofs.leaf.read_null.Goals as goal
 
+pub returns-in_err-body-clause-is : goal.returns-in_err-body-clause-is
+returns-in_err-body-clause-is c = rw (handed_on _ _ c.from_residual.ensures.1) (null_no _ _ _ _ _ c.in_err-body.ensures.is)
+
 pub returns-then-body-stop-clause-is : goal.returns-then-body-stop-clause-is
-returns-then-body-stop-clause-is c = search null_is
+returns-then-body-stop-clause-is c = null_some _ _ _ _ _ c.in_ok-body.ensures.is c.in_ok-body.ensures.inside.1.0 c.in_ok-body.ensures.inside.1.1 c.if-body-stop.true
 
-pub returns-then-body-stop-clause-inside : goal.returns-then-body-stop-clause-inside
-returns-then-body-stop-clause-inside c = omega (arith, tagged-inside c.args.at c.args.end _ _ _ c.tagged_at.ensures.inside c.in-Is.is)
-
-pub returns-in-Refused-clause-is : goal.returns-in-Refused-clause-is
-returns-in-Refused-clause-is c = search null_no
-
-pub returns-in-Refused-clause-inside : goal.returns-in-Refused-clause-inside
-returns-in-Refused-clause-inside c = tt
-
-pub returns-else-body-stop-clause-is : goal.returns-else-body-stop-clause-is
-returns-else-body-stop-clause-is c = search (null_no, null_some)
-
-pub returns-else-body-stop-clause-inside : goal.returns-else-body-stop-clause-inside
-returns-else-body-stop-clause-inside c = tt
+pub returns-clause-is : goal.returns-clause-is
+returns-clause-is c = null_is _ _ _ _ _ c.in_ok-body.ensures.is c.if-body-stop.false

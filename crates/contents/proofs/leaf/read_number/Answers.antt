@@ -1,18 +1,7 @@
--- `read_number` meets its contract: by the short way, or by the long one. Assumes nothing.
-use native.Mathlib.Omega.{arith}
+-- `read_number` meets its contract: by one octet, or by the long way. Assumes nothing.
+use native.Mathlib.Nat.{le_refl}
 use Rattle.contents.proofs.Shorts.{number_short}
-use borrow.Author.Rules.{rules}
 use Rattle.contents.proofs.leaf.read_number.Goals as goal
 
-pub overflow_add-result : goal.overflow_add-result
-overflow_add-result c = let j = c.short_number-n.ensures (search rules) in omega (arith, j.0.to)
-
-pub returns-then-n-top-clause-is : goal.returns-then-n-top-clause-is
-returns-then-n-top-clause-is c =
-    let j = c.short_number-n.ensures (search rules) in
-    search number_short
-
-pub returns-then-n-top-clause-inside : goal.returns-then-n-top-clause-inside
-returns-then-n-top-clause-inside c =
-    let j = c.short_number-n.ensures (search rules) in
-    omega (arith, j.0.to)
+pub returns-then-val-top-clause-is : goal.returns-then-val-top-clause-is
+returns-then-val-top-clause-is c = number_short _ _ _ (le_refl _) _ _ _ c.in-Some.ensures.1 c.in-Some.ensures.2 c.in-Some.ensures.0 c.if-val-top.true

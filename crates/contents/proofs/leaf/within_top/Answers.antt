@@ -2,8 +2,8 @@
 use Rattle.contents.proofs.Spelled.{top_long, top_over, top_within}
 use Rattle.contents.proofs.leaf.within_top.Goals as goal
 
-pub returns-then-end-at-gt8 : goal.returns-then-end-at-gt8
-returns-then-end-at-gt8 c = search top_long
+pub returns-then-octets-gt8 : goal.returns-then-octets-gt8
+returns-then-octets-gt8 c = search top_long
 
 pub returns-then-top-value : goal.returns-then-top-value
 returns-then-top-value c = search top_over

@@ -1,21 +1,13 @@
--- `contents::root::read_hash` meets its contract: the last member, read or not there, and then the end. Assumes nothing.
-use Rattle.contents.proofs.Roots.{hash-none, hash-none-inside, hash_no, hash-is, hash-inside}
+-- `read_hash` meets its contract: a hash where there is to be one. Assumes nothing.
+use Rattle.answer.proofs.Results.{handed_on}
+use Rattle.contents.proofs.Roots.{hash_none, hash_no, hash_some}
 use Rattle.contents.proofs.root.read_hash.Goals as goal
 
 pub returns-then-not-hashed-clause-is : goal.returns-then-not-hashed-clause-is
-returns-then-not-hashed-clause-is c = search hash-none
+returns-then-not-hashed-clause-is c = hash_none _ _ _ _ c.if-not-hashed.true
 
-pub returns-then-not-hashed-clause-inside : goal.returns-then-not-hashed-clause-inside
-returns-then-not-hashed-clause-inside c = search hash-none-inside
+pub returns-in_err-hash-clause-is : goal.returns-in_err-hash-clause-is
+returns-in_err-hash-clause-is c = rw (handed_on _ _ c.from_residual.ensures.1) (hash_no _ _ _ _ c.if-not-hashed.false _ _ c.in_err-hash.ensures.is)
 
-pub returns-in-Refused-clause-is : goal.returns-in-Refused-clause-is
-returns-in-Refused-clause-is c = search hash_no
-
-pub returns-in-Refused-clause-inside : goal.returns-in-Refused-clause-inside
-returns-in-Refused-clause-inside c = tt
-
-pub returns-in-Is-clause-is : goal.returns-in-Is-clause-is
-returns-in-Is-clause-is c = search hash-is
-
-pub returns-in-Is-clause-inside : goal.returns-in-Is-clause-inside
-returns-in-Is-clause-inside c = search hash-inside
+pub returns-clause-is : goal.returns-clause-is
+returns-clause-is c = hash_some _ _ _ _ c.if-not-hashed.false _ _ c.in_ok-hash.ensures.is
