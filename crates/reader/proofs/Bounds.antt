@@ -1,7 +1,7 @@
 -- What a record's sets and octet parts keep to while it is filled, and that what is absent or spare is zero: an empty list
 -- does, and a list with a field more that does. With the content's shape that makes the record well-shaped, its parts inside
 -- and it the one that its places make. Assumes nothing.
-use mathlib.Core.Path.{◌≡◌, refl, sym, subst}
+use mathlib.Core.Path.{◌≡◌, refl, sym}
 use mathlib.Core.Bool.{Bool, true, false, ◌&&◌}
 use mathlib.Core.List.{List}
 use Prim.Native.Nat.{ℕ, ◌+◌, ◌<◌, ◌≤◌}
@@ -12,7 +12,7 @@ use lib.Dec.{T, eqb, le→leb}
 use lib.ListN.{length, get_or, set, get_or-replicate}
 use lib.Seq.{get_or-set_same, get_or-set_other}
 use borrow.Author.Tests.{eq-eqb, ne_eqb}
-use Rattle.answer.specs.Answer.{pick}
+use Rattle.answer.specs.Answer.{Answer, got, refused, pick}
 use Rattle.answer.proofs.Logic.{and_both, by_le}
 use Rattle.schema.specs.Table as table
 use Rattle.schema.specs.Table.{row_at, row_count}
@@ -29,7 +29,6 @@ use Rattle.records.specs.declared.NumberSet.{NumberSet}
 use Rattle.records.specs.declared.RootOfTrust.{RootOfTrust}
 use Rattle.records.specs.declared.FieldList.{FieldList}
 use Rattle.records.specs.declared.Part.{Part}
-use Rattle.records.specs.declared.Security.{Security}
 use Rattle.records.specs.declared.Record.{Record}
 use Rattle.records.proofs.PlacesRead.{places_read}
 use Rattle.records.proofs.Made.{record_made_lem}
@@ -37,14 +36,10 @@ use Rattle.records.proofs.ContentShaped.{content_shaped, all_of}
 use Rattle.contents.specs.Content.{Stored}
 use Rattle.contents.specs.Root.{PartsIn}
 use Rattle.reader.specs.Lists.{with_field}
-use Rattle.contents.specs.Head.{HeadInside}
 use Rattle.reader.specs.Reading.{of_reading, AcceptedSound}
-use Rattle.reader.specs.Eight.{refused_reading}
-use Rattle.contents.specs.Kept.{ContentKept}
+use Rattle.contents.specs.Kept.{ContentIn, ContentKept}
 use Rattle.reader.specs.Inside.{ListIn, RecordIn}
 use Rattle.contents.specs.declared.head.Head.{Head}
-use Rattle.reader.specs.declared.Outcome.{Outcome}
-use Rattle.reader.specs.declared.Reading.{Reading}
 use Rattle.contents.proofs.Kept.{empty-spare, differ}
 use Rattle.contents.proofs.Spelled.{octets_all}
 use Rattle.reader.proofs.Lists.{stored_sized, empty-sized}
@@ -100,9 +95,6 @@ module _ (n : ℕ) where
       root = record { hash = λ e. refl; absent = λ e. refl };
     };
   }
-
-  pub list_empty_in : (l : FieldList) → l ≡ empty_list → ListIn n l
-  list_empty_in l e = rw e empty_in
 
   module _ (l : FieldList) (row : ℕ) (c : Stored) (h : row < row_count) (i : ListIn n l) (j : ContentKept (row_at row).kind n c) where
     stored_octet : (k : ℕ) → k < row_count → (row_at k).kind ≡ table.octets → get_or (set l.values row c.value) k 0 + get_or (set l.sizes row c.size) k 0 ≤ n
@@ -166,17 +158,9 @@ module _ (n : ℕ) where
 
   -- ---- the record
 
-  pub refused_in : (k p : ℕ) (r : Reading) → r ≡ refused_reading k p → RecordIn n r.said
-  refused_in k p r e = rw e (record { challenge = omega arith; unique = omega arith; software = empty_in; hardware = empty_in })
-
-  pub refused-sound : (k p : ℕ) (r : Reading) → r ≡ refused_reading k p → AcceptedSound n r.outcome r.said
-  refused-sound k p r e = rw e tt
-
-  pub eight_in : (at end : ℕ) (h : Head) (a m : Security) (c u : Part) (x : ℕ) (l g : FieldList) → end ≤ n → HeadInside at end h → h ≡ Head.Is a m c u x → ListIn n l → ListIn n g
-      → RecordIn n (record { attestation = a; keymint = m; challenge = c; unique = u; software = l; hardware = g })
-  eight_in at end h a m c u x l g f i w p q =
-      let j = subst (HeadInside at end) w i in
-      record { challenge = omega (arith, j.1.1.0.0); unique = omega (arith, j.1.1.0.1); software = p; hardware = q }
+  pub eight_in : (h : Head) (l g : FieldList) → (h.challenge.start + h.challenge.len ≤ n) × (h.unique.start + h.unique.len ≤ n) → ListIn n l → ListIn n g
+      → RecordIn n (record { attestation = h.attestation; keymint = h.keymint; challenge = h.challenge; unique = h.unique; software = l; hardware = g })
+  eight_in h l g j p q = record { challenge = j.0; unique = j.1; software = p; hardware = q }
 
   parts-inside : (r : Record) → RecordIn n r → T (parts_inside r n)
   unfolding parts_inside
@@ -185,15 +169,34 @@ module _ (n : ℕ) where
       (and_both (part_inside r.unique n) _ (part-inside r.unique i.unique)
       (and_both (list_inside r.software n) _ (list_inside_lem r.software i.software) (list_inside_lem r.hardware i.hardware)))
 
+-- what lies within n bytes lies within more
+module _ (n m : ℕ) (more : n ≤ m) where
+  pub kept_more : (value size : Bool) (c : Stored) → ContentIn value size n c → ContentIn value size m c
+  kept_more value size c i = record {
+    set = i.set;
+    spare = i.spare;
+    root = (omega (arith, i.root.0), omega (arith, i.root.1));
+    hash = i.hash;
+    no_value = i.no_value;
+    no_size = i.no_size;
+    octet = λ q. omega (arith, i.octet q);
+  }
+
+  pub list_more : (l : FieldList) → ListIn n l → ListIn m l
+  list_more l i = record {
+    sized = i.sized;
+    sets = i.sets;
+    root = (omega (arith, i.root.0), omega (arith, i.root.1));
+    octet = λ k h e. omega (arith, i.octet k h e);
+    clear = i.clear;
+  }
+
 -- what is accepted is sound
-pub accepted-sound : (s : List ℕ) → ((k : ℕ) → Fits w8 (get_or s k 0)) → (o : Outcome) (r : Record) → RecordIn (length s) r → of_reading o r ≡ read_places s → AcceptedSound (length s) o r
-accepted-sound s f (Outcome.Accepted k) r i e =
+pub accepted-sound : (s : List ℕ) → ((k : ℕ) → Fits w8 (get_or s k 0)) → (o : Answer ℕ) (r : Record) → RecordIn (length s) r → of_reading o r ≡ read_places s → AcceptedSound (length s) o r
+accepted-sound s f (got k) r i e =
     (content_shaped r (octets_at s) i.software.sets i.hardware.sets (read-sound s (content_of r s) k (octets_all s f) (places_read r s k (octets_all s f) (sym e))).0, parts-inside (length s) r i)
-accepted-sound s f (Outcome.Refused k p) r i e = tt
+accepted-sound s f (refused k p) r i e = tt
 
 -- and nothing in it is open
 pub kept_made : (n : ℕ) (r : Record) → RecordIn n r → record_made (places_of r) ≡ r
 kept_made n r i = record_made_lem r i.software.sized i.software.sets i.software.clear i.hardware.sized i.hardware.sets i.hardware.clear
-
-pub refused-made : (k p : ℕ) (r : Reading) → r ≡ refused_reading k p → record_made (places_of r.said) ≡ r.said
-refused-made k p r e = kept_made 0 r.said (refused_in 0 k p r e)

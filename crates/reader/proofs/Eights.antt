@@ -1,6 +1,6 @@
 -- What stands around a KeyDescription's two lists: the first pass, the outermost SEQUENCE and the six of the head before
--- them, and the end after them; one law for each answer. Assumes nothing.
-use mathlib.Core.Path.{◌≡◌, refl, sym, subst, ◌∙◌}
+-- them; one law for each answer. Assumes nothing.
+use mathlib.Core.Path.{◌≡◌, refl, sym, ◌∙◌}
 use mathlib.Core.Bool.{Bool, true, false}
 use mathlib.Core.List.{List}
 use Prim.Native.Nat.{ℕ, ◌≤◌}
@@ -10,36 +10,24 @@ use lib.Dec.{eqb}
 use lib.ListN.{length}
 use lib.Seq.{slice, length-slice, take-length}
 use borrow.Author.Tests.{eq-eqb, ne_eqb}
-use Rattle.answer.specs.Answer.{Answer, got, refused, guard, bind, pick}
+use Rattle.answer.specs.Answer.{Answer, got, refused, guard, bind}
 use Rattle.answer.proofs.Answer.{got_inj, refused-got, refused_as}
 use Rattle.answer.proofs.Logic.{by_le}
 use Rattle.codec.specs.Octets.{Taken, taken}
 use Rattle.codec.specs.Header.{identifier}
 use Rattle.codec.specs.Element.{tagged, exactly}
 use Rattle.codec.specs.Tree.{Node, nodes, first_pass}
-use Rattle.schema.specs.Content.{Places, Place, place_at}
+use Rattle.schema.specs.Content.{Places, Place}
 use Rattle.schema.specs.Decode.{Eight, eight_from, read_eight, decode_with, read_with, read_places, as_place}
-use Rattle.records.specs.Empty.{empty_list, empty_record}
-use Rattle.records.specs.declared.Record.{Record}
-use Rattle.records.specs.declared.Security.{Security}
-use Rattle.records.specs.declared.Part.{Part}
-use Rattle.records.specs.declared.FieldList.{FieldList}
-use Rattle.der.specs.Walk.{extension_limits, of_walked, node_count}
-use Rattle.der.specs.declared.walk.Limits.{Limits}
-use Rattle.der.specs.declared.walk.Walked.{Walked}
-use Rattle.contents.specs.Element.{opened_as, of_tagged, TaggedInside}
-use Rattle.contents.specs.Head.{heading, read_head, of_head, HeadInside, lists_after}
-use Rattle.reader.specs.Eight.{lists_from, ListsAt, closed_step}
-use Rattle.contents.specs.declared.element.Tagged.{Tagged}
+use Rattle.std.specs.Prelude.{Ok}
+use Rattle.der.specs.Walk.{node_count}
+use Rattle.contents.specs.Element.{opened_as}
+use Rattle.contents.specs.Head.{heading_of, read_head, HeadInside, lists_after}
+use Rattle.reader.specs.Eight.{lists_from, ListsAt}
 use Rattle.contents.specs.declared.head.Head.{Head}
-use Rattle.contents.specs.declared.set.Step.{Step}
-use Rattle.contents.proofs.Open.{leaf_no, leaf_is, tagged-inside}
+use Rattle.contents.proofs.Open.{leaf_no, leaf_is}
 use Rattle.contents.proofs.Heads.{eight_split}
 use Rattle.codec.specs.Limits.{extension_bytes, extension_depth, extension_elements}
-
-pub record_is : (l : FieldList) → l ≡ empty_list
-    → ◌≡◌ {A = Record} (record { attestation = record { version = 0; level = 0 }; keymint = record { version = 0; level = 0 }; challenge = record { start = 0; len = 0 }; unique = record { start = 0; len = 0 }; software = l; hardware = l }) empty_record
-record_is l e = rw e refl
 
 -- ---- nothing is left just where the holder stops
 
@@ -54,27 +42,24 @@ with_count n M = bind M (λ c. got (c, n))
 
 -- ---- after the first pass
 
-module _ (s : List ℕ) (limits : Limits) (q : limits ≡ extension_limits) (r : Walked) (e : of_walked r ≡ node_count (first_pass limits.bytes limits.depth limits.elements s)) where
-  first : of_walked r ≡ node_count (first_pass extension_bytes extension_depth extension_elements s)
-  first = rw q at e
-
+module _ (s : List ℕ) where
   walked_no : (k p : ℕ) (M : Answer Node) → refused k p ≡ node_count M → ◌≡◌ {A = Answer (Places × ℕ)} (bind M (λ t. with_count (nodes t) (decode_with as_place s))) (refused k p)
   unfolding bind
   walked_no k p (got t) z = absurd (refused-got z)
   walked_no k p (refused j l) z = sym (refused_as z)
 
-  pub walk_no : (k p : ℕ) → r ≡ Walked.Refused k p → read_places s ≡ refused k p
+  pub walk_no : (k p : ℕ) → refused k p ≡ node_count (first_pass extension_bytes extension_depth extension_elements s) → read_places s ≡ refused k p
   unfolding read_with
-  walk_no k p w = walked_no k p (first_pass extension_bytes extension_depth extension_elements s) (rw w at first)
+  walk_no k p e = walked_no k p (first_pass extension_bytes extension_depth extension_elements s) e
 
   walked_is : (n : ℕ) (M : Answer Node) → got n ≡ node_count M → bind M (λ t. with_count (nodes t) (decode_with as_place s)) ≡ with_count n (decode_with as_place s)
   unfolding bind
   walked_is n (got t) z = rw (got_inj z) refl
   walked_is n (refused j l) z = absurd (refused-got (sym z))
 
-  walk_is : (n : ℕ) → r ≡ Walked.Accepted n → read_places s ≡ with_count n (decode_with as_place s)
+  walk_is : (n : ℕ) → got n ≡ node_count (first_pass extension_bytes extension_depth extension_elements s) → read_places s ≡ with_count n (decode_with as_place s)
   unfolding read_with
-  walk_is n w = walked_is n (first_pass extension_bytes extension_depth extension_elements s) (rw w at first)
+  walk_is n e = walked_is n (first_pass extension_bytes extension_depth extension_elements s) e
 
 -- ---- the outermost SEQUENCE: 9 for more in it and 7 for more after it, as `lists_from` has them
 
@@ -106,54 +91,33 @@ decode_outer : (s : List ℕ) (n : ℕ) → with_count n (decode_with as_place s
 unfolding decode_with exactly outer
 decode_outer s n = rw take-length refl
 
-module _ (s : List ℕ) (limits : Limits) (q : limits ≡ extension_limits) (r : Walked) (e : of_walked r ≡ node_count (first_pass limits.bytes limits.depth limits.elements s)) (n : ℕ) (w : r ≡ Walked.Accepted n)
-    (t : Tagged) (e₁ : of_tagged s (length s) t ≡ opened_as 1 16 0 (slice 0 (length s) s)) where
+module _ (s : List ℕ) (n : ℕ) (e : got n ≡ node_count (first_pass extension_bytes extension_depth extension_elements s)) where
   all : read_places s ≡ ended n (tagged 9 (identifier 1 16) outer 0 (slice 0 (length s) s))
-  all = walk_is s limits q r e n w ∙ decode_outer s n
+  all = walk_is s n e ∙ decode_outer s n
 
-  pub outer_no : (k p : ℕ) → t ≡ Tagged.Refused k p → read_places s ≡ refused k p
+  pub outer_no : (k p : ℕ) → refused k p ≡ opened_as 1 16 0 (slice 0 (length s) s) → read_places s ≡ refused k p
   unfolding bind
-  outer_no k p w₁ = all ∙ rw (leaf_no outer 0 1 16 s (length s) t e₁ k p w₁) refl
+  outer_no k p e₁ = all ∙ rw (← leaf_no outer 0 1 16 s (length s) k p e₁) refl
 
-  module _ (b x : ℕ) (w₁ : t ≡ Tagged.Is b x) (h : Head) (e₂ : of_head s x h ≡ read_head b (slice b x s)) where
+  module _ (b x : ℕ) (e₁ : got (taken (b, slice b x s) x (slice x (length s) s)) ≡ opened_as 1 16 0 (slice 0 (length s) s)) where
     here : (M : Answer (Taken (Eight Place))) → read_eight as_place b (slice b x s) ≡ M
         → read_places s ≡ bind M (λ v. guard (eqb (length v.rest) 0) 9 v.next (guard (eqb (length (slice x (length s) s)) 0) 7 x (got (eight_from v.val, n))))
     unfolding outer exactly
-    here M z = all ∙ (rw (leaf_is outer 0 1 16 s (length s) t e₁ b x w₁, z) refl ∙ in_order n x (slice x (length s) s) M)
+    here M z = all ∙ (rw (← leaf_is outer 0 1 16 s (length s) b x e₁, z) refl ∙ in_order n x (slice x (length s) s) M)
 
-    pub six_no : (k p : ℕ) → h ≡ Head.Refused k p → read_places s ≡ refused k p
+    pub six_no : (k p : ℕ) → refused k p ≡ read_head b (slice b x s) → read_places s ≡ refused k p
     unfolding bind
-    six_no k p w₂ = here (refused k p) (rw (eight_split, ← e₂, w₂) refl)
+    six_no k p e₂ = here (refused k p) (rw (eight_split, ← e₂) refl)
 
-    module _ (a m : Security) (c u : Part) (y : ℕ) (w₂ : h ≡ Head.Is a m c u y) where
-      lists : read_eight as_place b (slice b x s) ≡ lists_after (heading (a.version, a.level) (m.version, m.level) (place_at c.start c.len, place_at u.start u.len)) y (slice y x s)
+    module _ (h : Head) (y : ℕ) (e₂ : got (taken (heading_of h) y (slice y x s)) ≡ read_head b (slice b x s)) where
+      lists : read_eight as_place b (slice b x s) ≡ lists_after (heading_of h) y (slice y x s)
       unfolding bind
-      lists = rw (eight_split, ← e₂, w₂) refl
+      lists = rw (eight_split, ← e₂) refl
 
-      pub opened-to : TaggedInside 0 (length s) t → HeadInside b x h → ListsAt s n a m c u y x
+      pub opened-to : x ≤ length s → HeadInside b x (Ok (record { val = h; next = y })) → ListsAt s n h y x
       unfolding lists_from
-      opened-to i j =
-          let o = tagged-inside 0 (length s) b x t i w₁ in
-          let g : HeadInside b x (Head.Is a m c u y) = subst (HeadInside b x) w₂ j in
-          record {
-            fits = o.1.1;
-            inside = (omega (arith, o.0, g.0), g.1);
-            reads = here _ lists ∙ rw (none_left s x (length s) o.1.1 (le_refl _)) refl;
-          }
-
--- ---- the end
-
-pub closed_extra : (x stop end : ℕ) (t : Step) → t ≡ Step.Past x → (x ≡ stop → ⊥) → Step.Refused 9 x ≡ closed_step t stop end
-unfolding pick
-closed_extra x stop end t w h = rw (w, ne_eqb x stop h) refl
-
-pub closed_spare : (x stop end : ℕ) (t : Step) → t ≡ Step.Past x → x ≡ stop → (stop ≡ end → ⊥) → Step.Refused 7 stop ≡ closed_step t stop end
-unfolding pick
-closed_spare x stop end t w q h = rw (w, eq-eqb x stop q, ne_eqb stop end h) refl
-
-pub closed_is : (x stop end : ℕ) (t : Step) → t ≡ Step.Past x → x ≡ stop → stop ≡ end → Step.Past end ≡ closed_step t stop end
-unfolding pick
-closed_is x stop end t w q h = rw (w, eq-eqb x stop q, eq-eqb stop end h) refl
-
-pub closed_no : (k p stop end : ℕ) (t : Step) → t ≡ Step.Refused k p → Step.Refused k p ≡ closed_step t stop end
-closed_no k p stop end t w = rw w refl
+      opened-to l g = record {
+        fits = l;
+        inside = (omega (arith, g.0), g.1);
+        reads = here _ lists ∙ rw (none_left s x (length s) l (le_refl _)) refl;
+      }

@@ -17,24 +17,23 @@ use Rattle.schema.specs.Decode.{read_value, row_content, field_content, read_fie
 use Rattle.schema.specs.Rows.{of_row}
 use Rattle.schema.specs.declared.Row as code
 use Rattle.schema.proofs.Table.{find-place, find_none}
-use Rattle.contents.specs.Element.{opened, of_element, ElementInside}
+use Rattle.contents.specs.Element.{opening, opened}
 use Rattle.reader.specs.Fields.{FieldAt}
-use Rattle.contents.specs.declared.element.Element.{Element}
-use Rattle.contents.proofs.Open.{element_open, content_after, element-inside}
+use Rattle.contents.proofs.Open.{element_open, content_after}
 
 rows-length : length rows ≡ row_count
 unfolding rows
 rows-length = refl
 
-module _ (s : List ℕ) (at end v low : ℕ) (r : Element) (e : of_element s end r ≡ opened at (slice at end s)) where
-  pub field_no : (k p : ℕ) → r ≡ Element.Refused k p → read_field as_place v low at (slice at end s) ≡ refused k p
+module _ (s : List ℕ) (at end v low : ℕ) where
+  pub field_no : (k p : ℕ) → refused k p ≡ opened at (slice at end s) → read_field as_place v low at (slice at end s) ≡ refused k p
   unfolding read_field bind
-  field_no k p w = rw (element_open, ← e, w) refl
+  field_no k p e = rw (element_open, ← e) refl
 
-  module _ (f n b x : ℕ) (w : r ≡ Element.Is f n b x) where
+  module _ (f n b x : ℕ) (e : got (taken (opening (identifier f n) b (slice b x s)) x (slice x end s)) ≡ opened at (slice at end s)) where
     opens : read_field as_place v low at (slice at end s) ≡ bind (field_content as_place v low (identifier f n) at b (slice b x s)) (λ a. got (taken a x (slice x end s)))
     unfolding read_field bind content_after
-    opens = rw (element_open, ← e, w) refl
+    opens = rw (element_open, ← e) refl
 
     pub field-form : (f ≡ 5 → ⊥) → read_field as_place v low at (slice at end s) ≡ refused 9 at
     unfolding field_content guard bind
@@ -69,16 +68,14 @@ module _ (s : List ℕ) (at end v low : ℕ) (r : Element) (e : of_element s end
         joined (got y) = refl
         joined (refused k p) = refl
 
-        pub field_is : b₁ ≡ true → low ≤ n → ElementInside at end r → FieldAt s at end v low i n b x
+        pub field_is : b₁ ≡ true → low ≤ n → (at < b) × ((b ≤ x) × (x ≤ end)) → FieldAt s at end v low i n b x
         unfolding row_content guard
-        field_is z o j =
-            let k = element-inside at end f n b x r j w in
-            record {
-              in_table = l;
-              is_row = place.1;
-              above = o;
-              body = k.0;
-              stop = k.1.0;
-              inside = k.1.1;
-              reads = tagged ∙ (rw (place.0, held, z, le-leb low n o) refl ∙ joined (read_value as_place v (row_at i).kind at b (slice b x s)));
-            }
+        field_is z o k = record {
+          in_table = l;
+          is_row = place.1;
+          above = o;
+          body = k.0;
+          stop = k.1.0;
+          inside = k.1.1;
+          reads = tagged ∙ (rw (place.0, held, z, le-leb low n o) refl ∙ joined (read_value as_place v (row_at i).kind at b (slice b x s)));
+        }

@@ -1,8 +1,8 @@
-pub mod FieldHeads
 pub mod Lists
-pub mod Bounds
+pub mod FieldHeads
 pub mod FieldReads
+pub mod Bounds
 pub mod Filling
+pub mod Answered
 pub mod Eights
 pub mod Readings
-pub mod Answered

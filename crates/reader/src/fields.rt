@@ -1,100 +1,82 @@
 // One list of fields: explicit tags in strictly ascending number, each one that the version holds.
-ghost use Rattle.std.specs.Prelude.{◌≡◌, ◌≤◌, length};
+ghost use Rattle.std.specs.Prelude.{◌≡◌, true, ℕ, ◌<◌, ◌≤◌, length};
 ghost use Rattle.std.proofs.Math.Seq.{slice};
-ghost use Rattle.schema.specs.Decode.{read_list, as_place};
-ghost use Rattle.contents.specs.Set.{PastAt, PastInside};
+ghost use Rattle.schema.specs.Table.{row_count, row_at, set, root};
+ghost use Rattle.schema.specs.Rows.{of_kind};
+ghost use Rattle.contents.specs.Content.{is_plain};
 ghost use Rattle.contents.specs.Element.{opened, of_element, ElementInside};
 ghost use Rattle.reader.specs.Fields.{FieldOpened};
-ghost use Rattle.reader.specs.Lists.{fields_from, of_fields, of_list};
+ghost use Rattle.reader.specs.Lists.{with_set, with_row, StoredAs, FieldsRead, ListRead};
 ghost use Rattle.records.specs.Empty.{empty_root, empty_list};
-ghost use Rattle.reader.specs.Inside.{ListIn};
 
-use answer::{FIELD_ORDER, NOT_IN_VERSION, WRONG_ELEMENT};
-use contents::content::{Fit, Plain, RootContent, plain_content, root_content, set_content};
-use contents::element::{Element, Tagged, open_tagged};
-use contents::set::{Step, empty_set};
+use answer::{Refusal, Refused};
+use contents::content::{plain_content, root_content, set_content};
+use contents::element::{Element, Span, open_tagged};
+use contents::set::empty_set;
 use der::header::{Header, quick_header};
-use records::{FieldList, Part, RootOfTrust};
+use records::{FieldList, NumberSet, Part, RootOfTrust};
 use schema::{Kind, ROWS, held, row_at, row_of};
 
-// A field: its row and number, and its content from body to stop; or a refusal with its place.
+// A field: its row and number, and its content from body to stop.
 #[derive(Clone, Copy)]
-pub(crate) enum FieldHead {
-    Is {
-        row: usize,
-        number: usize,
-        body: usize,
-        stop: usize,
-    },
-    Refused(u8, usize),
+pub(crate) struct FieldHead {
+    pub(crate) row: usize,
+    pub(crate) number: usize,
+    pub(crate) body: usize,
+    pub(crate) stop: usize,
 }
 
-// The next element of a list, which is to be an explicit tag; where no octet is left, one is missing.
-fn open_explicit(s: &[u8], at: usize, end: usize) -> Element
-    requires { end ≤ length s.now }
-    ensures is { of_element s.now end result ≡ opened at (slice at end s.now) }
-    ensures inside { ElementInside at end result }
+// The next element of a list, which is to be an explicit tag; where no octet is left, one is missing. contents has the same
+// with the plain look at the header, which is slower for fields and quicker for all else.
+fn open_explicit(s: &[u8], at: usize) -> Result<Element, Refused>
+    ensures is { of_element s.now (length s.now) result ≡ opened at (slice at (length s.now) s.now) }
+    ensures inside { ElementInside at (length s.now) result }
 {
-    if end <= at {
-        return Element::Refused(WRONG_ELEMENT, at);
+    if s.len() <= at {
+        return Err(Refused(Refusal::WrongElement, at));
     }
-    match quick_header(s, at, end) {
-        Header::Refused(k, place) => Element::Refused(k, place),
-        Header::Is {
-            form,
-            number,
-            size,
-            body,
-        } => Element::Is {
-            form,
-            number,
-            body,
-            stop: body + size,
-        },
-    }
+    let Header {
+        form,
+        number,
+        size,
+        body,
+    } = quick_header(s, at)?;
+    Ok(Element {
+        form,
+        number,
+        body,
+        stop: body + size,
+    })
 }
 
 // "A field: 9 for its class or form, 11, 12": up to its content.
-fn open_field(s: &[u8], at: usize, end: usize, version: u32, low: usize) -> FieldHead
-    requires { end ≤ length s.now }
-    ensures { FieldOpened s.now at end version low result }
+fn open_field(s: &[u8], at: usize, version: u32, low: usize) -> Result<FieldHead, Refused>
+    ensures { FieldOpened s.now at (length s.now) version low result }
 {
-    match open_explicit(s, at, end) {
-        Element::Refused(k, place) => FieldHead::Refused(k, place),
-        Element::Is {
-            form,
+    let Element {
+        form,
+        number,
+        body,
+        stop,
+    } = open_explicit(s, at)?;
+    if form != 5 {
+        return Err(Refused(Refusal::WrongElement, at));
+    }
+    let Some(row) = row_of(number) else {
+        return Err(Refused(Refusal::NotInVersion, at));
+    };
+    if held(version, row_at(row)) {
+        if number < low {
+            return Err(Refused(Refusal::FieldOrder, at));
+        }
+        return Ok(FieldHead {
+            row,
             number,
             body,
             stop,
-        } => {
-            if form != 5 {
-                return FieldHead::Refused(WRONG_ELEMENT, at);
-            }
-            let row = row_of(number);
-            if ROWS <= row {
-                return FieldHead::Refused(NOT_IN_VERSION, at);
-            }
-            if held(version, row_at(row)) {
-                if number < low {
-                    return FieldHead::Refused(FIELD_ORDER, at);
-                }
-                return FieldHead::Is {
-                    row,
-                    number,
-                    body,
-                    stop,
-                };
-            }
-            FieldHead::Refused(NOT_IN_VERSION, at)
-        }
+        });
     }
-}
-
-// A list, and the next place; where it is refused, the fields up to there.
-#[derive(Clone, Copy)]
-pub(crate) struct ListRead {
-    pub step: Step,
-    pub list: FieldList,
+    Err(Refused(Refusal::NotInVersion, at))
 }
 
 fn empty_root() -> RootOfTrust
@@ -126,111 +108,112 @@ pub(crate) fn empty_list() -> FieldList
     }
 }
 
-// The fields from at to end, stored by their rows.
-fn read_fields(s: &[u8], at: usize, end: usize, version: u32) -> ListRead
-    requires { (at ≤ end) × (end ≤ length s.now) }
-    ensures is { of_fields result.step result.list ≡ fields_from version at (slice at end s.now) }
-    ensures inside { PastAt end result.step }
-    ensures bounds { ListIn (length s.now) result.list }
+// A set in the place that its row has.
+fn store_set(list: &mut FieldList, row: usize, g: NumberSet)
+    requires { (row < row_count) × ((row_at row).kind ≡ set) }
+    ensures { list.new ≡ with_set list.old row g }
 {
-    let mut list = empty_list();
-    let mut place = at;
-    let mut low: usize = 0;
-    while place < end {
-        match open_field(s, place, end, version, low) {
-            FieldHead::Refused(k, fault) => {
-                return ListRead {
-                    step: Step::Refused(k, fault),
-                    list,
-                };
-            }
-            FieldHead::Is {
-                row,
-                number,
-                body,
-                stop,
-            } => {
-                let kind = row_at(row).kind;
-                match kind {
-                    Kind::Set => {
-                        let content = set_content(s, body, stop);
-                        let set = content.set;
-                        let fit = content.fit;
-                        match fit {
-                            Fit::Refused(k, fault) => {
-                                return ListRead {
-                                    step: Step::Refused(k, fault),
-                                    list,
-                                };
-                            }
-                            Fit::Whole => {
-                                list.present[row] = true;
-                                list.values[row] = 0;
-                                list.sizes[row] = 0;
-                                place = stop;
-                                low = number + 1;
-                                match row {
-                                    0 => list.purpose = set,
-                                    3 => list.digest = set,
-                                    4 => list.padding = set,
-                                    _ => list.mgf = set,
-                                }
-                            }
-                        }
-                    }
-                    Kind::Root => match root_content(s, body, stop, 3 <= version) {
-                        RootContent::Refused(k, fault) => {
-                            return ListRead {
-                                step: Step::Refused(k, fault),
-                                list,
-                            };
-                        }
-                        RootContent::Is(root) => {
-                            list.present[row] = true;
-                            list.values[row] = 0;
-                            list.sizes[row] = 0;
-                            list.root = root;
-                            place = stop;
-                            low = number + 1;
-                        }
-                    },
-                    _ => match plain_content(s, body, stop, kind) {
-                        Plain::Refused(k, fault) => {
-                            return ListRead {
-                                step: Step::Refused(k, fault),
-                                list,
-                            };
-                        }
-                        Plain::Is(value, size) => {
-                            list.present[row] = true;
-                            list.values[row] = value;
-                            list.sizes[row] = size;
-                            place = stop;
-                            low = number + 1;
-                        }
-                    },
-                }
-            }
-        }
-    }
-    ListRead {
-        step: Step::Past(end),
-        list,
+    match row {
+        0 => list.purpose = g,
+        3 => list.digest = g,
+        4 => list.padding = g,
+        _ => list.mgf = g,
     }
 }
 
-// One list: a SEQUENCE of fields.
-pub(crate) fn read_list(s: &[u8], at: usize, end: usize, version: u32) -> ListRead
-    requires { end ≤ length s.now }
-    ensures is { of_list s.now end result.step result.list ≡ read_list as_place version at (slice at end s.now) }
-    ensures inside { PastInside at end result.step }
-    ensures bounds { ListIn (length s.now) result.list }
+// A row is present, with these words.
+fn mark_row(list: &mut FieldList, row: usize, value: u64, size: u64)
+    requires { row < row_count }
+    ensures { list.new ≡ with_row list.old row value size }
 {
-    match open_tagged(s, at, end, 1, 16) {
-        Tagged::Refused(k, place) => ListRead {
-            step: Step::Refused(k, place),
-            list: empty_list(),
-        },
-        Tagged::Is(body, stop) => read_fields(s, body, stop, version),
+    list.present[row] = true;
+    list.values[row] = value;
+    list.sizes[row] = size;
+}
+
+fn store_set_field(s: &[u8], field: FieldHead, list: &mut FieldList) -> Result<(), Refused>
+    requires { (field.row < row_count) × ((row_at field.row).kind ≡ set) }
+    ensures { (v : ℕ) → StoredAs s.now v field list.old list.new result }
+{
+    let g = set_content(s, field.body)?;
+    store_set(list, field.row, g);
+    mark_row(list, field.row, 0, 0);
+    Ok(())
+}
+
+fn store_root_field(
+    s: &[u8],
+    field: FieldHead,
+    version: u32,
+    list: &mut FieldList,
+) -> Result<(), Refused>
+    requires { (field.row < row_count) × ((row_at field.row).kind ≡ root) }
+    ensures { StoredAs s.now version field list.old list.new result }
+{
+    list.root = root_content(s, field.body, 3 <= version)?;
+    mark_row(list, field.row, 0, 0);
+    Ok(())
+}
+
+fn store_plain_field(
+    s: &[u8],
+    field: FieldHead,
+    kind: Kind,
+    list: &mut FieldList,
+) -> Result<(), Refused>
+    requires { (field.row < row_count) × (of_kind kind ≡ (row_at field.row).kind) × (is_plain (of_kind kind) ≡ true) }
+    ensures { (v : ℕ) → StoredAs s.now v field list.old list.new result }
+{
+    let plain = plain_content(s, field.body, kind)?;
+    mark_row(list, field.row, plain.value, plain.size);
+    Ok(())
+}
+
+// The field's content, which is all of s from its body on, stored by its row; the words of a set and of 704 are 0.
+fn store_field(
+    s: &[u8],
+    field: FieldHead,
+    version: u32,
+    list: &mut FieldList,
+) -> Result<(), Refused>
+    requires { field.row < row_count }
+    ensures { StoredAs s.now version field list.old list.new result }
+{
+    let kind = row_at(field.row).kind;
+    match kind {
+        Kind::Set => store_set_field(s, field, list),
+        Kind::Root => store_root_field(s, field, version, list),
+        _ => store_plain_field(s, field, kind, list),
     }
+}
+
+// The fields from at to the holder's end, stored by their rows.
+fn read_fields(s: &[u8], at: usize, version: u32, list: &mut FieldList) -> Result<(), Refused>
+    requires { (at ≤ length s.now) × (list.old ≡ empty_list) }
+    ensures { FieldsRead s.now at version list.new result }
+{
+    let mut place = at;
+    let mut low: usize = 0;
+    while place < s.len() {
+        let field = open_field(s, place, version, low)?;
+        store_field(&s[..field.stop], field, version, list)?;
+        place = field.stop;
+        low = field.number + 1;
+    }
+    Ok(())
+}
+
+// One list, filled where it stands: a SEQUENCE of fields; and the next place.
+pub(crate) fn read_list(
+    s: &[u8],
+    at: usize,
+    version: u32,
+    list: &mut FieldList,
+) -> Result<usize, Refused>
+    requires { list.old ≡ empty_list }
+    ensures { ListRead s.now at version list.new result }
+{
+    let Span { body, stop } = open_tagged(s, at, 1, 16)?;
+    read_fields(&s[..stop], body, version, list)?;
+    Ok(stop)
 }

@@ -5,84 +5,40 @@ mod eight;
 mod fields;
 
 ghost use Rattle.std.specs.Prelude.{◌≡◌};
-ghost use Rattle.reader.specs.Reading.{Reads};
-ghost use Rattle.reader.specs.Eight.{refused_reading};
+ghost use Rattle.reader.specs.Reading.{Answered};
 
-pub use crate::eight::empty_record;
-use crate::eight::{Opening, closed, read_opening};
+use crate::eight::{Opening, read_opening, record_of};
 use crate::fields::read_list;
-use contents::set::Step;
+use answer::{Refusal, Refused};
 use records::Record;
 
-// Accepted, with the count of elements; or a refusal with its place.
-#[derive(Clone, Copy)]
-pub enum Outcome {
-    Accepted(usize),
-    Refused(u8, usize),
-}
-
-// What a read answers. Where it is accepted the record, its octet parts taken from the bytes that were read, says what they
-// say; where it is refused the record says nothing.
+// What an accepted extension says, its octet parts taken from the bytes that were read, and how many elements it has.
 #[derive(Clone, Copy)]
 pub struct Reading {
-    pub outcome: Outcome,
+    pub elements: usize,
     pub said: Record,
 }
 
-fn refused(number: u8, place: usize) -> Reading
-    ensures { result ≡ refused_reading number place }
+// Reads one extension: the first pass, and then the schema. Any bytes get an answer, and nothing lent is changed. The record
+// is made once, and its lists are filled where they stand: each function that handed them on would copy them.
+pub fn read(s: &[u8]) -> Result<Reading, Refused>
+    ensures { Answered s.now result }
 {
-    Reading {
-        outcome: Outcome::Refused(number, place),
-        said: empty_record(),
+    let Opening {
+        elements,
+        head,
+        next,
+        stop,
+    } = read_opening(s)?;
+    let version = head.attestation.version;
+    let mut said = record_of(head);
+    let middle = read_list(&s[..stop], next, version, &mut said.software)?;
+    let end = read_list(&s[..stop], middle, version, &mut said.hardware)?;
+    if end != stop {
+        return Err(Refused(Refusal::WrongElement, end));
     }
-}
-
-// Reads one extension: the first pass, and then the schema. Any bytes get an answer, and nothing lent is changed. The lists
-// are joined here, and the record made once: each function that handed it on would copy it.
-pub fn read(s: &[u8]) -> Reading
-    ensures { Reads s.now result.outcome result.said }
-{
-    match read_opening(s) {
-        Opening::Refused(k, place) => return refused(k, place),
-        Opening::Is {
-            count,
-            attestation,
-            keymint,
-            challenge,
-            unique,
-            next,
-            stop,
-        } => {
-            let version = attestation.version;
-            let first = read_list(s, next, stop, version);
-            let after = first.step;
-            match after {
-                Step::Refused(k, place) => return refused(k, place),
-                Step::Past(middle) => {
-                    let second = read_list(s, middle, stop, version);
-                    let end = second.step;
-                    let last = closed(end, stop, s.len());
-                    match last {
-                        Step::Refused(k, place) => return refused(k, place),
-                        Step::Past(_) => {
-                            let software = first.list;
-                            let hardware = second.list;
-                            return Reading {
-                                outcome: Outcome::Accepted(count),
-                                said: Record {
-                                    attestation,
-                                    keymint,
-                                    challenge,
-                                    unique,
-                                    software,
-                                    hardware,
-                                },
-                            };
-                        }
-                    }
-                }
-            }
-        }
+    if stop != s.len() {
+        return Err(Refused(Refusal::SpareBytes, stop));
     }
+    Ok(Reading { elements, said })
 }

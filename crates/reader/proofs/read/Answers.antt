@@ -1,34 +1,28 @@
 -- `read` meets its contract: the opening, the two lists and the end over the same bytes. Assumes nothing.
-use Rattle.reader.proofs.Readings.{lists_fit, opening_no, software_no, end_no, read_is}
+use mathlib.Core.Path.{refl}
+use native.Mathlib.Omega.{arith}
+use lib.ListN.{length-take}
+use lib.Seq.{length-take-le}
+use Rattle.answer.proofs.Results.{handed_on}
+use Rattle.der.proofs.Elements.{holder_part}
+use Rattle.reader.proofs.Bounds.{list_more}
+use Rattle.reader.proofs.Readings.{reads_no, software_no, hardware_no, end_extra, end_spare, read_is}
 use Rattle.reader.proofs.read.Goals as goal
 
-pub returns-in-Refused : goal.returns-in-Refused
-returns-in-Refused c = search opening_no
+pub returns-in_err-elements : goal.returns-in_err-elements
+returns-in_err-elements c = rw (handed_on _ _ c.from_residual.ensures.1) (reads_no _ _ _ c.in_err-elements.ensures)
 
-pub read_list-first-requires : goal.read_list-first-requires
-read_list-first-requires c = search lists_fit
+pub returns-in_err-middle : goal.returns-in_err-middle
+returns-in_err-middle c = rw (handed_on _ _ c.from_residual-in_err-middle.ensures.1) (software_no _ _ _ _ _ c.in_ok-elements.ensures _ _ (rw (holder_part c.args.s.now _ c.in_ok-elements.field-0.stop c.in_ok-elements.field-0.next refl) at c.in_err-middle.ensures.0))
 
-pub returns-in-Refused-after : goal.returns-in-Refused-after
-returns-in-Refused-after c = search software_no
+pub returns-in_err-end : goal.returns-in_err-end
+returns-in_err-end c = rw (handed_on _ _ c.from_residual-in_err-end.ensures.1) (hardware_no _ _ _ _ _ c.in_ok-elements.ensures _ _ (rw (holder_part c.args.s.now _ c.in_ok-elements.field-0.stop c.in_ok-middle.middle refl, holder_part c.args.s.now _ c.in_ok-elements.field-0.stop c.in_ok-elements.field-0.next refl) at c.in_ok-middle.ensures.0) _ _ (rw (holder_part c.args.s.now _ c.in_ok-elements.field-0.stop c.in_ok-middle.middle refl) at c.in_err-end.ensures.0))
 
-pub read_list-second-requires : goal.read_list-second-requires
-read_list-second-requires c = search lists_fit
+pub returns-then-end-stop : goal.returns-then-end-stop
+returns-then-end-stop c = end_extra _ _ _ _ _ c.in_ok-elements.ensures _ _ (rw (holder_part c.args.s.now _ c.in_ok-elements.field-0.stop c.in_ok-middle.middle refl, holder_part c.args.s.now _ c.in_ok-elements.field-0.stop c.in_ok-elements.field-0.next refl) at c.in_ok-middle.ensures.0) _ _ (rw (holder_part c.args.s.now _ c.in_ok-elements.field-0.stop c.in_ok-end.end refl, holder_part c.args.s.now _ c.in_ok-elements.field-0.stop c.in_ok-middle.middle refl) at c.in_ok-end.ensures.0) (rw (length-take-le c.in_ok-elements.field-0.stop c.args.s.now c.in_ok-elements.ensures.fits) at c.in_ok-end.ensures.1.1.0) c.if-end-stop.true
 
-pub returns-in-Refused-last : goal.returns-in-Refused-last
-returns-in-Refused-last c =
-    let s = c.args.s.now in
-    let opening = c.read_opening in
-    let first = c.read_list-first in
-    let second = c.read_list-second in
-    let end = c.closed-last in
-    let no = c.refused-in-Refused-last in
-    end_no s opening.result opening.ensures _ _ _ _ _ _ _ c.in-Is.is first.result.step first.result.list first.ensures.is _ c.in-Past.is second.result.list second.result.step second.ensures.is second.ensures.inside end.result end.ensures _ _ no.result c.in-Refused-last.is no.ensures
+pub returns-then-stop-s : goal.returns-then-stop-s
+returns-then-stop-s c = end_spare _ _ _ _ _ c.in_ok-elements.ensures _ _ (rw (holder_part c.args.s.now _ c.in_ok-elements.field-0.stop c.in_ok-middle.middle refl, holder_part c.args.s.now _ c.in_ok-elements.field-0.stop c.in_ok-elements.field-0.next refl) at c.in_ok-middle.ensures.0) _ _ (rw (holder_part c.args.s.now _ c.in_ok-elements.field-0.stop c.in_ok-end.end refl, holder_part c.args.s.now _ c.in_ok-elements.field-0.stop c.in_ok-middle.middle refl) at c.in_ok-end.ensures.0) (rw (length-take-le c.in_ok-elements.field-0.stop c.args.s.now c.in_ok-elements.ensures.fits) at c.in_ok-end.ensures.1.1.0) c.if-end-stop.false c.if-stop-s.true
 
-pub returns-in-Past-last : goal.returns-in-Past-last
-returns-in-Past-last c =
-    let s = c.args.s.now in
-    let opening = c.read_opening in
-    let first = c.read_list-first in
-    let second = c.read_list-second in
-    let end = c.closed-last in
-    read_is s opening.result opening.ensures _ _ _ _ _ _ _ c.in-Is.is first.result.step first.result.list first.ensures.is _ c.in-Past.is second.result.list second.result.step second.ensures.is second.ensures.inside end.result end.ensures _ c.in-Past-last.is c.shared_slice_known-1.given first.ensures.bounds second.ensures.bounds
+pub returns : goal.returns
+returns c = rw c.record_of-said.ensures (read_is _ _ _ _ _ c.in_ok-elements.ensures _ _ (rw (holder_part c.args.s.now _ c.in_ok-elements.field-0.stop c.in_ok-middle.middle refl, holder_part c.args.s.now _ c.in_ok-elements.field-0.stop c.in_ok-elements.field-0.next refl) at c.in_ok-middle.ensures.0) _ _ (rw (holder_part c.args.s.now _ c.in_ok-elements.field-0.stop c.in_ok-end.end refl, holder_part c.args.s.now _ c.in_ok-elements.field-0.stop c.in_ok-middle.middle refl) at c.in_ok-end.ensures.0) (rw (length-take-le c.in_ok-elements.field-0.stop c.args.s.now c.in_ok-elements.ensures.fits) at c.in_ok-end.ensures.1.1.0) c.if-end-stop.false c.if-stop-s.false c.type_inv.s (list_more _ _ (omega (arith, length-take c.in_ok-elements.field-0.stop c.args.s.now)) _ c.in_ok-middle.ensures.1.1.1) (list_more _ _ (omega (arith, length-take c.in_ok-elements.field-0.stop c.args.s.now)) _ c.in_ok-end.ensures.1.1.1))

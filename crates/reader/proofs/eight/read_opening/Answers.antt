@@ -1,22 +1,20 @@
 -- `read_opening` meets its contract: the first pass, the outermost SEQUENCE over the same bytes, and the six in it.
 -- Assumes nothing.
-use lib.ListN.{length}
-use native.Mathlib.Omega.{arith}
-use Rattle.contents.proofs.Open.{tagged-inside}
+use mathlib.Core.Path.{refl}
+use lib.Seq.{length-take-le}
+use Rattle.answer.proofs.Results.{handed_on}
+use Rattle.der.proofs.Elements.{holder_part}
 use Rattle.reader.proofs.Eights.{walk_no, outer_no, six_no, opened-to}
 use Rattle.reader.proofs.eight.read_opening.Goals as goal
 
-pub read_head-requires : goal.read_head-requires
-read_head-requires c = omega (arith, tagged-inside 0 (length c.args.s.now) _ _ _ c.open_tagged.ensures.inside c.in-Is.is)
+pub returns-in_err-elements : goal.returns-in_err-elements
+returns-in_err-elements c = rw (handed_on _ _ c.from_residual.ensures.1) (walk_no _ _ _ (rw c.extension.ensures at c.in_err-elements.ensures))
 
-pub returns-in-Refused : goal.returns-in-Refused
-returns-in-Refused c = search walk_no
+pub returns-in_err-body : goal.returns-in_err-body
+returns-in_err-body c = rw (handed_on _ _ c.from_residual-in_err-body.ensures.1) (outer_no _ _ (rw c.extension.ensures at c.in_ok-elements.ensures) _ _ c.in_err-body.ensures.is)
 
-pub returns-in-Refused-open_tagged : goal.returns-in-Refused-open_tagged
-returns-in-Refused-open_tagged c = search outer_no
+pub returns-in_err-val : goal.returns-in_err-val
+returns-in_err-val c = rw (handed_on _ _ c.from_residual-in_err-val.ensures.1) (six_no _ _ (rw c.extension.ensures at c.in_ok-elements.ensures) _ _ c.in_ok-body.ensures.is _ _ (rw (holder_part c.args.s.now _ c.in_ok-body.field-0.stop _ refl) at c.in_err-val.ensures.is))
 
-pub returns-in-Refused-read_head : goal.returns-in-Refused-read_head
-returns-in-Refused-read_head c = search six_no
-
-pub returns-in-Is-read_head : goal.returns-in-Is-read_head
-returns-in-Is-read_head c = search opened-to
+pub returns : goal.returns
+returns c = opened-to _ _ (rw c.extension.ensures at c.in_ok-elements.ensures) _ _ c.in_ok-body.ensures.is _ _ (rw (holder_part c.args.s.now _ c.in_ok-body.field-0.stop c.in_ok-val.field-0.next refl, holder_part c.args.s.now _ c.in_ok-body.field-0.stop c.in_ok-body.field-0.body refl) at c.in_ok-val.ensures.is) c.in_ok-body.ensures.inside.1.1 (rw (length-take-le c.in_ok-body.field-0.stop c.args.s.now c.in_ok-body.ensures.inside.1.1) at c.in_ok-val.ensures.inside)
