@@ -1,6 +1,7 @@
 -- Sizes of identifiers, lengths and INTEGERs from significant bits, as the code finds them. Assumes nothing.
-use mathlib.Core.Path.{◌≡◌, refl}
-use Prim.Native.Nat.{ℕ, ◌+◌, ◌-◌, ◌/◌, ◌<◌, ◌≤◌}
+use mathlib.Core.Path.{◌≡◌, refl, ◌∙◌}
+use Prim.Native.Nat.{ℕ, ◌+◌, ◌-◌, ◌/◌, ◌%◌, ◌<◌, ◌≤◌}
+use Rattle.std.specs.Prelude.{min}
 use native.Mathlib.Omega.{arith}
 use mir.Val.{Fits}
 use mir.Syntax.{w64}
@@ -21,9 +22,12 @@ integer_size_lem x b e = rw e
 pub length-size-short : (n : ℕ) → n < 128 → 1 ≡ length (length_octets n)
 length-size-short n h = rw (length-short n h)
 
-pub length-size-long : (n b : ℕ) → 128 ≤ n → b ≡ bits n → (b + 7) / 8 + 1 ≡ length (length_octets n)
+pub length-size-long : (n b k : ℕ) → 128 ≤ n → b ≡ bits n → k ≡ b / 8 + min 1 (b % 8) → k + 1 ≡ length (length_octets n)
 unfolding length_size
-length-size-long n b h e = rw (length-long n (length_size n) h refl, e) (omega (arith, length-low_octets ((bits n + 7) / 8) n))
+length-size-long n b k h e d =
+    let up : b / 8 + min 1 (b % 8) ≡ (b + 7) / 8 = omega arith in
+    let c : k ≡ (bits n + 7) / 8 = d ∙ rw (← e) up in
+    rw (length-long n (length_size n) h refl, c) (omega (arith, length-low_octets ((bits n + 7) / 8) n))
 
 pub identifier-size_one : (n : ℕ) → n < 31 → (f : ℕ) → 1 ≡ length (identifier_octets (identifier f n))
 identifier-size_one n h f = rw (one_octet (identifier f n) h)

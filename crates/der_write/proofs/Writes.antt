@@ -1,70 +1,88 @@
 -- What the writer's leaves leave in the output, in plain variables. The idea: stores are splices, and one splice after
 -- another is one. Assumes nothing.
 use mathlib.Core.Path.{◌≡◌, refl, sym, ap, ◌∙◌}
-use mathlib.Core.Bool.{true, false}
 use mathlib.Core.List.{List, [], ◌∷◌}
-use Prim.Native.Nat.{ℕ, suc, ◌+◌, ◌-◌, ◌*◌, ◌/◌, ◌%◌, ◌^◌, ◌<◌, ◌≤◌}
+use Rattle.std.specs.Prelude.{Result, Ok, Err}
+use Rattle.std.specs.Result.{IsErr, IsErrAnd}
+use Rattle.answer.specs.declared.Refused.{Refused}
+use Prim.Native.Nat.{ℕ, zero, suc, ◌+◌, ◌-◌, ◌*◌, ◌/◌, ◌%◌, ◌^◌, ◌<◌, ◌≤◌}
 use native.Mathlib.Omega.{arith}
-use native.Mathlib.Nat.{div-div-eq-div-mul, div-one}
+use native.Mathlib.Nat.{div-one, zero-add, suc-add}
 use native.Mathlib.Numerals.{add-one}
 use mir.Val.{Fits}
 use mir.Syntax.{w8, w64}
 use lib.Bits.{bit_and, bit_or, or_shifted_r}
-use lib.Dec.{leb}
-use lib.ListN.{length, set, length-set, length-append}
+use lib.ListN.{length, take, drop, set, length-set, length-append}
+use lib.Seq.{drop-drop, take_all}
+use borrow.Rule.Slice.PartMut.{put_mid}
+use Rattle.std.specs.Int.{bytes_high_first}
 use lib.Pow.{pow-add}
-use borrow.Author.Tests.{le-ltb, lt-ltb, le-leb, lt-leb, leb-true}
+use borrow.Author.Tests.{le-ltb, lt-ltb, le-leb, lt-leb}
 use Rattle.answer.proofs.Logic.{by_le}
+use Rattle.answer.proofs.Answer.{got_inj, refused-got}
 use Rattle.answer.specs.Answer.{Answer, got, refused, guard, pick}
+use Rattle.answer.specs.Refusal.{number_of}
 use Rattle.codec.specs.Octets.{splice, left}
 use Rattle.codec.specs.Shortest.{low_octets, bits, integer_size, integer_octets, length_size, length_octets}
 use Rattle.codec.specs.Integer.{integer_element}
 use Rattle.codec.specs.Header.{Identifier, identifier, identifier_octets, header_octets, element_octets}
-use Rattle.codec.proofs.Splice.{splice-nothing, splice_one, splice-splice, splice_before, splice_stores}
+use Rattle.codec.proofs.Splice.{splice_one, splice-splice, splice_stores}
 use Rattle.codec.proofs.Shortest.{bits-le, lt-bits, length-low_octets, length-short, length-long}
 use Rattle.codec.proofs.Header.{one_octet, two_octets, three_octets}
-use Rattle.der_write.specs.Write.{header_put, room_for}
+use Rattle.der_write.specs.Write.{of_put, header_put, room_after, room_for}
 use Rattle.der.proofs.Bits.{low7}
 use Rattle.der_write.proofs.Sizes.{identifier-size_one, identifier-size_two, identifier-size_three}
 
 -- ---- room
 
-pub no_room : (at n len : ℕ) → len < at → false ≡ leb (at + n) len
-no_room at n len h = sym (lt-leb (at + n) len (omega arith))
+module _ (out : List ℕ) (at n : ℕ) where
+  pub place_fits : (end : ℕ) → end ≡ at + n → end ≤ length out → got end ≡ room_after out at n
+  unfolding room_after guard
+  place_fits end e h = rw (e, le-leb (at + n) (length out) (omega arith)) refl
 
-pub some_room : (at n len : ℕ) → at ≤ len → leb n (len - at) ≡ leb (at + n) len
-some_room at n len h =
-    by_le n (len - at)
-    (λ l. le-leb n (len - at) l ∙ sym (le-leb (at + n) len (omega arith)))
-    (λ l. lt-leb n (len - at) l ∙ sym (lt-leb (at + n) len (omega arith)))
+  pub place_past : length out < at + n → refused 21 0 ≡ room_after out at n
+  unfolding room_after guard
+  place_past h = rw (lt-leb (at + n) (length out) h) refl
 
-pub has_space : (at n len : ℕ) → true ≡ leb (at + n) len → at + n ≤ len
-has_space at n len r = leb-true (at + n) len (sym r)
+  -- a value says that there is room
+  pub has_space : (end : ℕ) → got end ≡ room_after out at n → (at + n ≤ length out) × (end ≡ at + n)
+  unfolding room_after guard
+  has_space end e =
+      by_le (at + n) (length out)
+      (λ h. (h, got_inj (e ∙ rw (le-leb (at + n) (length out) h) refl)))
+      (λ h.
+      let r : got end ≡ refused 21 0 = e ∙ rw (lt-leb (at + n) (length out) h) refl in
+      absurd (refused-got (sym r)))
 
--- ---- the low octets of a number, from the last to the first: k of n are still to come
+-- ---- the low octets of a number, as the last of the sixteen that u128 has
 
-module _ (old : List ℕ) (at n x : ℕ) where
-  pub octets-start : (x ≡ x / 2 ^ (8 * (n - n))) × (old ≡ splice old (at + n) (low_octets (n - n) x))
-  octets-start = let e : n - n ≡ 0 = omega arith in rw e (sym (div-one x), sym (splice-nothing old (at + n)))
+pow_256 : (k : ℕ) → 256 ^ k ≡ 2 ^ (8 * k)
+pow_256 zero = refl
+pow_256 (suc k) = let e : 8 * suc k ≡ 8 * k + 8 = omega arith in rw (e, pow-add 2 (8 * k) 8, ← pow_256 k) (omega arith)
 
-  pub octets_shift : (k : ℕ) → 0 < k → k ≤ n → x / 2 ^ (8 * (n - k)) / 256 ≡ x / 2 ^ (8 * (n - (k - 1)))
-  octets_shift k p q =
-      let e : n - (k - 1) ≡ suc (n - k) = omega arith in
-      let c : 8 * (n - k) + 8 ≡ 8 * suc (n - k) = omega arith in
-      rw (e, div-div-eq-div-mul, ← c, pow-add) refl
+bytes-low : (n x : ℕ) → bytes_high_first n x ≡ low_octets n x
+bytes-low zero x = refl
+bytes-low (suc zero) x = rw (div-one x) refl
+bytes-low (suc (suc k)) x = rw (bytes-low (suc k) x, pow_256 (suc k)) refl
 
-  pub octets_more : (k : ℕ) → 0 < k → k ≤ n → at + n ≤ length old
-      → set (splice old (at + k) (low_octets (n - k) x)) (at + (k - 1)) (x / 2 ^ (8 * (n - k)) % 256) ≡ splice old (at + (k - 1)) (low_octets (n - (k - 1)) x)
-  octets_more k p q h =
-      let e1 : at + k ≡ suc (at + (k - 1)) = omega arith in
-      let e2 : n - (k - 1) ≡ suc (n - k) = omega arith in
-      rw (e1, e2) (splice_before old (at + (k - 1)) (low_octets (n - k) x) (x / 2 ^ (8 * (n - k)) % 256) (omega (arith, length-low_octets (n - k) x)))
+drop-bytes : (j n x : ℕ) → drop j (bytes_high_first (j + n) x) ≡ bytes_high_first n x
+drop-bytes zero n x = rw (zero-add n) refl
+drop-bytes (suc j) n x = rw (suc-add j n) (drop-bytes j n x)
 
-  pub octets_end : (k : ℕ) (out : List ℕ) → k ≤ 0 → out ≡ splice old (at + k) (low_octets (n - k) x) → out ≡ splice old at (low_octets n x)
-  octets_end k out l q =
-      let e1 : at + k ≡ at = omega arith in
-      let e2 : n - k ≡ n = omega arith in
-      rw (e1, e2) at q
+-- a write to a part of a slice, once it has its length, is a splice
+pub put_mid-splice : (old ys xs : List ℕ) (at n : ℕ) → ys ≡ xs → n ≡ length xs → put_mid at (at + n - at) old ys ≡ splice old at xs
+unfolding splice
+put_mid-splice old ys xs at n e h =
+    let m : at + n - at ≡ n = omega arith in
+    rw (m, drop-drop n at old, e, h) refl
+
+pub octets_copied : (old bs ys : List ℕ) (at n x y : ℕ) → n ≤ 9 → y ≡ x → bs ≡ bytes_high_first 16 y → ys ≡ take (16 - (16 - n)) (drop (16 - n) bs)
+    → put_mid at (at + n - at) old ys ≡ splice old at (low_octets n x)
+octets_copied old bs ys at n x y h d e q =
+    let l = length-low_octets n x in
+    let k : 16 ≡ 16 - n + n = omega arith in
+    let w : drop (16 - n) (bytes_high_first 16 x) ≡ low_octets n x = ap (λ m. drop (16 - n) (bytes_high_first m x)) k ∙ drop-bytes (16 - n) n x ∙ bytes-low n x in
+    put_mid-splice old ys (low_octets n x) at n (q ∙ rw (e, d, w) (take_all (16 - (16 - n)) (low_octets n x) (omega arith))) (sym l)
 
 -- ---- an identifier
 
@@ -155,13 +173,17 @@ pub header-length : (i : Identifier) (n : ℕ) → length (header_octets i n) �
 unfolding header_octets
 header-length i n = length-append (identifier_octets i) (length_octets n)
 
--- what a refusal leaves
-pub kept : {A : Type 0} (M : Answer A) (k p : ℕ) (old : List ℕ) (at : ℕ) (xs : List ℕ) → M ≡ refused k p → old ≡ left M old at xs
-kept M k p old at xs e = rw e refl
+-- what a `?` hands on is the refusal that came
+pub handed_on : (r : Result ℕ Refused) (e : Refused) (M : Answer ℕ) → IsErr r × IsErrAnd r (λ x. x ≡ e) → refused (number_of e.0) e.1 ≡ M → of_put r ≡ M
+handed_on (Ok a) e M h q = absurd h.1
+handed_on (Err x) e M h q = rw h.1 q
 
--- and what a value leaves
-pub wrote : {A : Type 0} (M : Answer A) (a : A) (old new : List ℕ) (at : ℕ) (xs : List ℕ) → M ≡ got a → new ≡ splice old at xs → new ≡ left M old at xs
-wrote M a old new at xs e w = rw e w
+-- what stands after a refusal, and after a value
+pub kept : (M : Answer ℕ) (n p : ℕ) (old : List ℕ) (at : ℕ) (xs : List ℕ) → refused n p ≡ M → old ≡ left M old at xs
+kept M n p old at xs e = rw (← e) refl
+
+pub wrote : (M : Answer ℕ) (a : ℕ) (old new : List ℕ) (at : ℕ) (xs : List ℕ) → got a ≡ M → new ≡ splice old at xs → new ≡ left M old at xs
+wrote M a old new at xs e w = rw (← e) w
 
 module _ (old : List ℕ) (at f n z : ℕ) where
   -- the second write after the first
@@ -172,32 +194,30 @@ module _ (old : List ℕ) (at f n z : ℕ) where
       let i = identifier f n in
       rw (q, p, e f) (splice-splice old at (identifier_octets i) (length_octets z) (omega (arith, length-append (identifier_octets i) (length_octets z))))
 
-  pub no_form : 8 ≤ f → header_put old at (identifier f n) z ≡ refused 3 at
+  pub no_form : 8 ≤ f → refused 3 at ≡ header_put old at (identifier f n) z
   unfolding header_put guard
   no_form h = rw (le-ltb f 8 h) refl
 
-  pub no_number : f < 8 → 16384 ≤ n → header_put old at (identifier f n) z ≡ refused 3 at
+  pub no_number : f < 8 → 16384 ≤ n → refused 3 at ≡ header_put old at (identifier f n) z
   unfolding header_put guard
   no_number h l = rw (lt-ltb f 8 h, le-ltb n 16384 l) refl
 
-  pub no_size_lem : f < 8 → n < 16384 → 65536 ≤ z → header_put old at (identifier f n) z ≡ refused 4 at
-  unfolding header_put guard
-  no_size_lem h l s = rw (lt-ltb f 8 h, lt-ltb n 16384 l, le-ltb z 65536 s) refl
+  module _ (h : f < 8) (l : n < 16384) where
+    pub no_size_lem : 65536 ≤ z → refused 4 at ≡ header_put old at (identifier f n) z
+    unfolding header_put guard
+    no_size_lem s = rw (lt-ltb f 8 h, lt-ltb n 16384 l, le-ltb z 65536 s) refl
 
-  module _ (m k : ℕ) (e : (g : ℕ) → m ≡ length (identifier_octets (identifier g n))) (e₂ : k ≡ length (length_octets z)) where
-    pub header-octets : length (header_octets (identifier f n) z) ≡ m + k
-    header-octets = omega (arith, header-length (identifier f n) z, e f)
+    module _ (s : z < 65536) (m k : ℕ) (e : (g : ℕ) → m ≡ length (identifier_octets (identifier g n))) (e₂ : k ≡ length (length_octets z)) where
+      header-octets : length (header_octets (identifier f n) z) ≡ m + k
+      header-octets = omega (arith, header-length (identifier f n) z, e f)
 
-    pub no_space : f < 8 → n < 16384 → z < 65536 → false ≡ leb (at + (m + k)) (length old) → header_put old at (identifier f n) z ≡ refused 21 0
-    unfolding header_put room_for guard
-    no_space h l s r = rw (lt-ltb f 8 h, lt-ltb n 16384 l, lt-ltb z 65536 s, header-octets, ← r) refl
+      -- what is left to ask is whether there is room
+      pub header_place : room_after old at (m + k) ≡ header_put old at (identifier f n) z
+      unfolding header_put room_for guard
+      header_place = rw (lt-ltb f 8 h, lt-ltb n 16384 l, lt-ltb z 65536 s, header-octets) refl
 
-    pub space : f < 8 → n < 16384 → z < 65536 → true ≡ leb (at + (m + k)) (length old) → header_put old at (identifier f n) z ≡ got (at + (m + k))
-    unfolding header_put room_for guard
-    space h l s r = rw (lt-ltb f 8 h, lt-ltb n 16384 l, lt-ltb z 65536 s, header-octets, ← r) refl
-
-    pub enough : true ≡ leb (at + (m + k)) (length old) → at + length (header_octets (identifier f n) z) ≤ length old
-    enough r = rw header-octets (has_space at (m + k) (length old) r)
+      pub header_fits : (end : ℕ) → got end ≡ room_after old at (m + k) → (f < 8) × (n < 16384) × (at + length (header_octets (identifier f n) z) ≤ length old)
+      header_fits end r = (h, l, rw header-octets (has_space old at (m + k) end r).0)
 
 module _ (old : List ℕ) (at f n z : ℕ) (room : at + length (header_octets (identifier f n) z) ≤ length old) where
   pub header-first : at + length (identifier_octets (identifier f n)) ≤ length old
@@ -254,10 +274,6 @@ module _ (old : List ℕ) (at x n : ℕ) (fit : Fits w64 x) (e : n ≡ integer_s
       let j : at + 3 ≡ suc (at + 2) = omega arith in
       integer_put (set (set mid (at + 2) (x / 256)) (at + 3) (x % 256)) room (rw (h, l, j) (rw h at (splice_stores mid (at + 2) (x / 256 ∷ (x % 256 ∷ [])) fits)))
 
-  pub integer_no : false ≡ leb (at + (2 + n)) (length old) → room_for old at (integer_element x) ≡ refused 21 0
-  unfolding room_for guard
-  integer_no r = rw (integer_length, ← r) refl
-
-  pub integer_yes : true ≡ leb (at + (2 + n)) (length old) → room_for old at (integer_element x) ≡ got (at + (2 + n))
-  unfolding room_for guard
-  integer_yes r = rw (integer_length, ← r) refl
+  pub integer_place : room_after old at (2 + n) ≡ room_for old at (integer_element x)
+  unfolding room_for
+  integer_place = rw integer_length refl

@@ -1,18 +1,22 @@
 -- What the writer's leaves answer and leave.
-use Rattle.std.specs.Prelude.{List, ℕ, ◌+◌, length, leb}
-use Rattle.answer.specs.Answer.{Answer, got, refused, guard}
+use Rattle.std.specs.Prelude.{List, ℕ, ◌+◌, length, leb, Result}
+use Rattle.answer.specs.declared.Refused.{Refused}
+use Rattle.answer.specs.Answer.{Answer, got, guard, answer_of}
 use Rattle.answer.specs.Refusal.{bad_identifier, bad_length, output_short}
 use Rattle.codec.specs.Octets.{left}
 use Rattle.codec.specs.Header.{Identifier, identifier_good, length_good, header_octets}
-use Rattle.der_write.specs.declared.Put.{Put}
 
-abbrev pub of_put : Put → Answer ℕ
-of_put (Put.Next p) = got p
-of_put (Put.Refused k p) = refused k p
+-- the place after what was put, or its refusal
+abbrev pub of_put : Result ℕ Refused → Answer ℕ
+of_put = answer_of (λ p. p)
 
--- the place after xs at p; "output shorter" (21, place 0) where they do not fit
+-- the place after n octets at p; "output shorter" (21, place 0) where they do not fit
+unfoldable pub room_after : List ℕ → ℕ → ℕ → Answer ℕ
+room_after out p n = guard (leb (p + n) (length out)) output_short 0 (got (p + n))
+
+-- the place after xs at p, likewise
 unfoldable pub room_for : List ℕ → ℕ → List ℕ → Answer ℕ
-room_for out p xs = guard (leb (p + length xs) (length out)) output_short 0 (got (p + length xs))
+room_for out p xs = room_after out p (length xs)
 
 -- what a reader would refuse is not written: 3 or 4 at its place
 unfoldable pub header_put : List ℕ → ℕ → Identifier → ℕ → Answer ℕ

@@ -1,5 +1,6 @@
 // The leaves of a writer: an element's header and an INTEGER, put at a place of a lent output. Each refuses what a
-// reader would refuse, or a short output, and then changes not one byte; else it writes just its octets.
+// reader would refuse, or a short output, and then changes not one byte; else it writes just its octets, and answers the
+// place after them.
 #![tactic(auto)]
 
 ghost use Rattle.std.specs.Prelude.{◌≡◌, ℕ, ◌+◌, ◌<◌, ◌≤◌, leb, length};
@@ -7,22 +8,15 @@ ghost use Rattle.codec.specs.Octets.{splice, left};
 ghost use Rattle.codec.specs.Shortest.{low_octets, bits, integer_size, length_octets};
 ghost use Rattle.codec.specs.Integer.{integer_element};
 ghost use Rattle.codec.specs.Header.{identifier, identifier_octets, header_octets};
-ghost use Rattle.der_write.specs.Write.{of_put, header_put, header_left, room_for};
+ghost use Rattle.der_write.specs.Write.{of_put, header_put, header_left, room_after, room_for};
 
-use answer::{BAD_IDENTIFIER, BAD_LENGTH, OUTPUT_SHORT};
-
-// The place after what was written; or a refusal with its place.
-#[derive(Clone, Copy)]
-pub enum Put {
-    Next(usize),
-    Refused(u8, usize),
-}
+use answer::{Refusal, Refused};
 
 // How many significant bits x has.
 fn significant_bits(x: u64) -> usize
     ensures { (result ≡ bits x) × (result ≤ 64) }
 {
-    (64 - u64::leading_zeros(x)) as usize
+    (64 - x.leading_zeros()) as usize
 }
 
 // How many content octets the INTEGER x has.
@@ -41,7 +35,7 @@ pub fn length_size(n: usize) -> usize
     if n < 128 {
         return 1;
     }
-    (significant_bits(n as u64) + 7) / 8 + 1
+    significant_bits(n as u64).div_ceil(8) + 1
 }
 
 // How many octets an identifier of this tag number has, whatever its form.
@@ -49,38 +43,31 @@ pub fn identifier_size(number: usize) -> usize
     ensures is { (form : ℕ) → result ≡ length (identifier_octets (identifier form number)) }
     ensures few { (0 < result) × (result ≤ 3) }
 {
-    if number < 31 {
-        return 1;
+    match number {
+        ..31 => 1,
+        31..128 => 2,
+        _ => 3,
     }
-    if number < 128 {
-        return 2;
-    }
-    3
 }
 
-// Whether n octets fit in out from at on, with no sum that could wrap.
-fn has_room(out: &[u8], at: usize, n: usize) -> bool
-    ensures { result ≡ leb (at + n) (length out.now) }
+// The place after n octets from at on, where out has room for them; no sum wraps.
+fn place_after(out: &[u8], at: usize, n: usize) -> Result<usize, Refused>
+    ensures { of_put result ≡ room_after out.now at n }
 {
-    let len = out.len();
-    if len < at {
-        return false;
+    match at.checked_add(n) {
+        Some(end) if end <= out.len() => Ok(end),
+        _ => Err(Refused(Refusal::OutputShort, 0)),
     }
-    n <= len - at
 }
 
-// The n low octets of x, the highest first, written from the last to the first.
+// The n low octets of x, the highest first.
 fn put_octets(out: &mut [u8], at: usize, x: u64, n: usize)
-    requires { at + n ≤ length out.old }
+    requires few { n ≤ 9 }
+    requires room { at + n ≤ length out.old }
     ensures { out.new ≡ splice out.old at (low_octets n x) }
 {
-    let mut y = x;
-    let mut k = n;
-    while 0 < k {
-        k -= 1;
-        out[at + k] = (y % 256) as u8;
-        y = y / 256;
-    }
+    let octets = u128::from(x).to_be_bytes();
+    out[at..at + n].copy_from_slice(&octets[16 - n..]);
 }
 
 // An identifier; a number from 31 on is taken apart seven bits to an octet.
@@ -125,25 +112,25 @@ fn write_header(out: &mut [u8], at: usize, form: u8, number: usize, size: usize)
 }
 
 // The header of an element with size content octets.
-pub fn put_header(out: &mut [u8], at: usize, form: u8, number: usize, size: usize) -> Put
+pub fn put_header(
+    out: &mut [u8],
+    at: usize,
+    form: u8,
+    number: usize,
+    size: usize,
+) -> Result<usize, Refused>
     ensures answer { of_put result ≡ header_put out.old at (identifier form number) size }
     ensures output { out.new ≡ header_left out.old at (identifier form number) size }
 {
-    if 8 <= form {
-        return Put::Refused(BAD_IDENTIFIER, at);
-    }
-    if 16384 <= number {
-        return Put::Refused(BAD_IDENTIFIER, at);
+    if 8 <= form || 16384 <= number {
+        return Err(Refused(Refusal::BadIdentifier, at));
     }
     if 65536 <= size {
-        return Put::Refused(BAD_LENGTH, at);
+        return Err(Refused(Refusal::BadLength, at));
     }
-    let n = identifier_size(number) + length_size(size);
-    if has_room(out, at, n) {
-        write_header(out, at, form, number, size);
-        return Put::Next(at + n);
-    }
-    Put::Refused(OUTPUT_SHORT, 0)
+    let end = place_after(out, at, identifier_size(number) + length_size(size))?;
+    write_header(out, at, form, number, size);
+    Ok(end)
 }
 
 // The INTEGER x of n content octets, known to fit; most have one, or two.
@@ -166,15 +153,12 @@ fn write_integer(out: &mut [u8], at: usize, x: u64, n: usize)
 }
 
 // The INTEGER x: 02, its length and its shortest content.
-pub fn put_integer(out: &mut [u8], at: usize, x: u64) -> Put
+pub fn put_integer(out: &mut [u8], at: usize, x: u64) -> Result<usize, Refused>
     ensures answer { of_put result ≡ room_for out.old at (integer_element x) }
     ensures output { out.new ≡ left (room_for out.old at (integer_element x)) out.old at (integer_element x) }
 {
     let n = integer_size(x);
-    let size = 2 + n;
-    if has_room(out, at, size) {
-        write_integer(out, at, x, n);
-        return Put::Next(at + size);
-    }
-    Put::Refused(OUTPUT_SHORT, 0)
+    let end = place_after(out, at, 2 + n)?;
+    write_integer(out, at, x, n);
+    Ok(end)
 }

@@ -1,37 +1,26 @@
 -- `put_integer` meets its contract: refused with nothing changed, or the whole INTEGER. Assumes nothing.
-use mathlib.Core.Path.{sym, ◌∙◌}
-use native.Mathlib.Omega.{arith}
-use Prim.Native.Nat.{◌+◌}
-use lib.ListN.{length}
-use Rattle.der_write.proofs.Writes.{kept, wrote, has_space, integer_no, integer_yes}
+use mathlib.Core.Path.{◌∙◌}
+use Rattle.der_write.proofs.Writes.{kept, wrote, handed_on, has_space, integer_place}
 use Rattle.der_write.proofs.put_integer.Goals as goal
 
+pub returns-in_err-end-clause-answer : goal.returns-in_err-end-clause-answer
+returns-in_err-end-clause-answer c =
+    let e = integer_place c.args.out.now c.args.at c.args.x c.integer_size-n.result c.ranges.x c.integer_size-n.ensures.is in
+    handed_on c.from_residual.result c.in_err-end.field-0.0 _ c.from_residual.ensures (c.in_err-end.ensures ∙ e)
+
+pub returns-in_err-end-clause-output : goal.returns-in_err-end-clause-output
+returns-in_err-end-clause-output c =
+    let e = integer_place c.args.out.now c.args.at c.args.x c.integer_size-n.result c.ranges.x c.integer_size-n.ensures.is in
+    kept _ _ _ c.args.out.now c.args.at _ (c.in_err-end.ensures ∙ e)
+
 pub write_integer-requires : goal.write_integer-requires
-write_integer-requires c = (c.integer_size-n.ensures.is, c.integer_size-n.ensures.few, has_space _ _ _ (sym c.if-has_room.true ∙ c.has_room.ensures))
-
-pub overflow_add-result : goal.overflow_add-result
-overflow_add-result c = omega (arith, has_space c.args.at (2 + c.integer_size-n.result) (length c.args.out.now) (sym c.if-has_room.true ∙ c.has_room.ensures))
-
-pub returns-then-has_room-clause-answer : goal.returns-then-has_room-clause-answer
-returns-then-has_room-clause-answer c =
-    let a = c.args in
-    let e = integer_yes c.args.out.now c.args.at c.args.x c.integer_size-n.result c.ranges.x c.integer_size-n.ensures.is (sym c.if-has_room.true ∙ c.has_room.ensures) in
-    sym e
-
-pub returns-then-has_room-clause-output : goal.returns-then-has_room-clause-output
-returns-then-has_room-clause-output c =
-    let a = c.args in
-    let e = integer_yes c.args.out.now c.args.at c.args.x c.integer_size-n.result c.ranges.x c.integer_size-n.ensures.is (sym c.if-has_room.true ∙ c.has_room.ensures) in
-    wrote _ _ a.out.now _ a.at _ e c.write_integer.ensures
+write_integer-requires c = (c.integer_size-n.ensures.is, c.integer_size-n.ensures.few, (has_space _ _ _ _ c.in_ok-end.ensures).0)
 
 pub returns-clause-answer : goal.returns-clause-answer
 returns-clause-answer c =
-    let a = c.args in
-    let e = integer_no c.args.out.now c.args.at c.args.x c.integer_size-n.result c.ranges.x c.integer_size-n.ensures.is (sym c.if-has_room.false ∙ c.has_room.ensures) in
-    sym e
+    c.in_ok-end.ensures ∙ integer_place c.args.out.now c.args.at c.args.x c.integer_size-n.result c.ranges.x c.integer_size-n.ensures.is
 
 pub returns-clause-output : goal.returns-clause-output
 returns-clause-output c =
-    let a = c.args in
-    let e = integer_no c.args.out.now c.args.at c.args.x c.integer_size-n.result c.ranges.x c.integer_size-n.ensures.is (sym c.if-has_room.false ∙ c.has_room.ensures) in
-    kept _ _ _ a.out.now a.at _ e
+    let e = integer_place c.args.out.now c.args.at c.args.x c.integer_size-n.result c.ranges.x c.integer_size-n.ensures.is in
+    wrote _ _ c.args.out.now _ c.args.at _ (c.in_ok-end.ensures ∙ e) c.write_integer.ensures

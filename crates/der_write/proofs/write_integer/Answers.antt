@@ -28,8 +28,8 @@ bounds-out-at-then-n-eq2-2 c = simp length-set (omega arith)
 pub returns-then-n-eq2 : goal.returns-then-n-eq2
 returns-then-n-eq2 c = search integer_two
 
-pub put_octets-requires : goal.put_octets-requires
-put_octets-requires c = simp length-set (omega arith)
+pub put_octets-requires-clause-room : goal.put_octets-requires-clause-room
+put_octets-requires-clause-room c = simp length-set (omega arith)
 
 pub returns : goal.returns
 returns c = search integer_put
