@@ -2,14 +2,13 @@
 -- is cut at 8,193 on the way is the sum cut at the end. Assumes nothing.
 use mathlib.Core.Path.{◌≡◌, refl, sym, ap, ◌∙◌}
 use mathlib.Core.Bool.{Bool, true, false}
-use mathlib.Core.Logic.{inl, inr}
+use mathlib.Core.Logic.{◌⊎◌, inl, inr}
 use mathlib.Core.List.{List, [], ◌∷◌, ◌++◌, append_assoc, append-nil}
 use Prim.Native.Nat.{ℕ, ◌+◌, ◌<◌, ◌≤◌}
 use native.Mathlib.Omega.{arith}
 use native.Mathlib.Numerals.{add-one}
 use native.Mathlib.Nat.{add_comm}
-use lib.ListN.{length, take, get_or, length-append}
-use lib.Seq.{take_all, take-suc}
+use lib.ListN.{length, get_or, length-append}
 use denote.Enum.Declared.{tag_of}
 use types.Run.{OneOf}
 use Rattle.answer.specs.Answer.{pick}
@@ -25,7 +24,7 @@ use Rattle.schema.specs.declared.Row.{Row}
 use Rattle.schema.specs.contracts.Kind as kinds
 use Rattle.schema.specs.Table.{row_at, row_count}
 use Rattle.schema.specs.Rows.{of_kind, of_row}
-use Rattle.schema.specs.Content.{Value, nul, nums, trust, field, enumerated_element, octets_element, boolean_element, hash_element, root_content, value_element, field_element, list_element, key_description, encode}
+use Rattle.schema.specs.Content.{nul, nums, trust, field, enumerated_element, octets_element, boolean_element, hash_element, root_content, value_element, field_element, list_element, key_description, encode}
 use Rattle.records.specs.declared.NumberSet.{NumberSet}
 use Rattle.records.specs.declared.RootOfTrust.{RootOfTrust}
 use Rattle.records.specs.declared.FieldList.{FieldList}
@@ -130,25 +129,6 @@ nothing = record { is = refl }
 pub chain_more : {A : Type 0} (enc : A → List ℕ) (xs : List A) (a : A) (n z r : ℕ) → Sized (chain_octets enc xs) n → Sized (enc a) z → r ≡ capped (n + z) → Sized (chain_octets enc (xs ++ (a ∷ []))) r
 chain_more enc xs a n z r e f q = rw (chain-append enc xs (a ∷ []), append-nil) (joined (chain_octets enc xs) (enc a) n z r e f q)
 
--- the members before the i-th are counted
-module _ (m : List ℕ) where
-  pub members-start : Sized (chain_octets integer_element (take 0 m)) 0
-  members-start = nothing
-
-  pub members_more : (i n z r : ℕ) → i < 16 → length m ≡ 16 → Sized (chain_octets integer_element (take i m)) n → Sized (integer_element (get_or m i 0)) z → r ≡ capped (n + z)
-      → Sized (chain_octets integer_element (take (i + 1) m)) r
-  members_more i n z r h l e f q =
-      let g : i < length m = omega arith in
-      rw (add-one, take-suc m i 0 g) (chain_more integer_element (take i m) (get_or m i 0) n z r e f q)
-
-  pub members-counted : (i k n : ℕ) → k ≤ i → i ≤ k → Sized (chain_octets integer_element (take i m)) n → Sized (chain_octets integer_element (take k m)) n
-  members-counted i k n h l e = let z : i ≡ k = omega arith in rw z at e
-
-  pub members_all : (i k n : ℕ) → 16 ≤ i → i ≤ k → length m ≡ 16 → Sized (chain_octets integer_element (take i m)) n → Sized (chain_octets integer_element (take k m)) n
-  members_all i k n h l w e =
-      let z : take i m ≡ take k m = take_all i m (omega arith) ∙ sym (take_all k m (omega arith)) in
-      rw z at e
-
 pub set-sized : (ms : List ℕ) (m r : ℕ) → Sized (chain_octets integer_element ms) m → r ≡ element_size 17 m → Sized (value_element (nums ms)) r
 unfolding value_element
 set-sized ms m r e q = around 1 17 m r (chain_octets integer_element ms) e q
@@ -160,12 +140,12 @@ unfolding boolean_element pick
 boolean_sized true = record { is = rw (short-length 0 1 (255 ∷ []) (omega arith) (omega arith)) refl }
 boolean_sized false = record { is = rw (short-length 0 1 (0 ∷ []) (omega arith) (omega arith)) refl }
 
-module _ (s : List ℕ) (t : RootOfTrust) (k z locked fixed : ℕ) (e : Sized (octets_element (part_of s t.key)) k) (q : locked ≡ capped (k + 3))
-    (f : Sized (enumerated_element t.state) z) (q₂ : fixed ≡ capped (locked + z)) where
+module _ (s : List ℕ) (t : RootOfTrust) (k z state locked fixed : ℕ) (d : state ≡ t.state) (e : Sized (octets_element (part_of s t.key)) k) (q : locked ≡ capped (k + 3))
+    (f : Sized (enumerated_element state) z) (q₂ : fixed ≡ capped (locked + z)) where
   root_fixed : Sized ((octets_element (part_of s t.key) ++ boolean_element t.locked) ++ enumerated_element t.state) fixed
   root_fixed =
       joined (octets_element (part_of s t.key) ++ boolean_element t.locked) (enumerated_element t.state) locked z fixed
-      (joined (octets_element (part_of s t.key)) (boolean_element t.locked) k 3 locked e (boolean_sized t.locked) q) f q₂
+      (joined (octets_element (part_of s t.key)) (boolean_element t.locked) k 3 locked e (boolean_sized t.locked) q) (rw d at f) q₂
 
   pub root-hashed : (m r : ℕ) → t.hashed ≡ true → Sized (octets_element (part_of s t.hash)) m → r ≡ capped (fixed + m) → Sized (root_content (root_of (octets_at s) t)) r
   unfolding root_content hash_element pick
@@ -201,13 +181,10 @@ module _ (s : List ℕ) (kind : Kind) (value size r : ℕ) where
   abbrev Valued : Type 0
   Valued = Sized (value_element (plain_value s (of_kind kind) value size)) r
 
-  pub value_number32 : kind ≡ Kind.Number32 → Sized (integer_element value) r → Valued
+  pub value_number : (kind ≡ Kind.Number32) ⊎ (kind ≡ Kind.Number64) → Sized (integer_element value) r → Valued
   unfolding value_element plain_value
-  value_number32 e f = rw e f
-
-  pub value_number64 : kind ≡ Kind.Number64 → Sized (integer_element value) r → Valued
-  unfolding value_element plain_value
-  value_number64 e f = rw e f
+  value_number (inl e) f = rw e f
+  value_number (inr e) f = rw e f
 
   pub value-octets : kind ≡ Kind.Octets → Sized (octets_element (octets_at s value size)) r → Valued
   unfolding value_element plain_value
@@ -220,28 +197,29 @@ module _ (s : List ℕ) (kind : Kind) (value size r : ℕ) where
 -- ---- the fields of a list
 
 -- what the value of a row is, by the kind that its row has
-module _ (l : FieldList) (s : List ℕ) (n k : ℕ) where
-  pub set_value : (kind : Kind) (g : NumberSet) → kind ≡ Kind.Set → g ≡ set_at l n → nums (members_of g) ≡ value_at l (octets_at s) n (of_kind kind) k
+module _ (l : FieldList) (s : List ℕ) (n k r : ℕ) where
+  pub set_value : (kind : Kind) (g : NumberSet) → kind ≡ Kind.Set → g ≡ set_at l n → Sized (value_element (nums (members_of g))) r → Sized (value_element (value_at l (octets_at s) n (of_kind kind) k)) r
   unfolding value_at
-  set_value kind g e d = rw (e, d) refl
+  set_value kind g e d q = rw (e, ← d) q
 
-  pub root-value : (kind : Kind) → kind ≡ Kind.Root → trust (root_of (octets_at s) l.root) ≡ value_at l (octets_at s) n (of_kind kind) k
+  pub root-value : (kind : Kind) → kind ≡ Kind.Root → Sized (value_element (trust (root_of (octets_at s) l.root))) r → Sized (value_element (value_at l (octets_at s) n (of_kind kind) k)) r
   unfolding value_at
-  root-value kind e = rw e refl
+  root-value kind e q = rw e q
 
-  pub plain_value_lem : (kind : Kind) → (kind ≡ Kind.Set → ⊥) → (kind ≡ Kind.Root → ⊥) → plain_value s (of_kind kind) (get_or l.values k 0) (get_or l.sizes k 0) ≡ value_at l (octets_at s) n (of_kind kind) k
+  pub plain_value_lem : (kind : Kind) (v z : ℕ) → (kind ≡ Kind.Set → ⊥) → (kind ≡ Kind.Root → ⊥) → v ≡ get_or l.values k 0 → z ≡ get_or l.sizes k 0
+      → Sized (value_element (plain_value s (of_kind kind) v z)) r → Sized (value_element (value_at l (octets_at s) n (of_kind kind) k)) r
   unfolding value_at plain_value
-  plain_value_lem Kind.Set o p = absurd (o refl)
-  plain_value_lem Kind.Number32 o p = refl
-  plain_value_lem Kind.Number64 o p = refl
-  plain_value_lem Kind.Null o p = refl
-  plain_value_lem Kind.Octets o p = refl
-  plain_value_lem Kind.Root o p = absurd (p refl)
+  plain_value_lem Kind.Set v z o p d e q = absurd (o refl)
+  plain_value_lem Kind.Number32 v z o p d e q = rw (← d) q
+  plain_value_lem Kind.Number64 v z o p d e q = rw (← d) q
+  plain_value_lem Kind.Null v z o p d e q = q
+  plain_value_lem Kind.Octets v z o p d e q = rw (← d, ← e) q
+  plain_value_lem Kind.Root v z o p d e q = absurd (p refl)
 
 -- the field of a row, from its value
-pub row_field : (l : FieldList) (s : List ℕ) (k : ℕ) (row : Row) (x : Value) → of_row row ≡ row_at k → x ≡ value_at l (octets_at s) row.number (of_kind row.kind) k
-    → field row.number x ≡ field (row_at k).number (value_at l (octets_at s) (row_at k).number (row_at k).kind k)
-row_field l s k row x d e = rw (e, ← d) refl
+row_field : (l : FieldList) (s : List ℕ) (k : ℕ) (row : Row) → of_row row ≡ row_at k
+    → field row.number (value_at l (octets_at s) row.number (of_kind row.kind) k) ≡ field (row_at k).number (value_at l (octets_at s) (row_at k).number (row_at k).kind k)
+row_field l s k row d = rw (← d) refl
 
 module _ (l : FieldList) (s : List ℕ) where
   -- the fields of the rows before the k-th are counted
@@ -252,11 +230,11 @@ module _ (l : FieldList) (s : List ℕ) where
   unfolding up_to
   fields_start = nothing
 
-  pub fields_more : (k n v e r : ℕ) (row : Row) (x : Value) → get_or l.present k false ≡ true → of_row row ≡ row_at k → x ≡ value_at l (octets_at s) row.number (of_kind row.kind) k → Counted k n
-      → Sized (value_element x) v → e ≡ element_size row.number v → r ≡ capped (n + e) → Counted (k + 1) r
+  pub fields_more : (k n v e r : ℕ) (row : Row) → get_or l.present k false ≡ true → of_row row ≡ row_at k → Counted k n
+      → Sized (value_element (value_at l (octets_at s) row.number (of_kind row.kind) k)) v → e ≡ element_size row.number v → r ≡ capped (n + e) → Counted (k + 1) r
   unfolding up_to field_at pick field_element
-  fields_more k n v e r row x h d g c f q q₂ =
-      rw (add-one, h, ← row_field l s k row x d g) (chain_more field_element (up_to (field_at l (octets_at s)) k) _ n e r c (around 5 row.number v e (value_element x) f q) q₂)
+  fields_more k n v e r row h d c f q q₂ =
+      rw (add-one, h, ← row_field l s k row d) (chain_more field_element (up_to (field_at l (octets_at s)) k) _ n e r c (around 5 row.number v e _ f q) q₂)
 
   pub fields_skip : (k n : ℕ) → get_or l.present k false ≡ false → Counted k n → Counted (k + 1) n
   unfolding up_to field_at pick
@@ -267,9 +245,9 @@ module _ (l : FieldList) (s : List ℕ) where
 
 -- ---- the whole
 
-pub security_sized : (v l a b r : ℕ) → Sized (integer_element v) a → Sized (enumerated_element l) b → r ≡ capped (a + b) → Sized (security_octets v l) r
+pub security_sized : (v l x y a b r : ℕ) → x ≡ v → y ≡ l → Sized (integer_element x) a → Sized (enumerated_element y) b → r ≡ capped (a + b) → Sized (security_octets v l) r
 unfolding security_octets
-security_sized v l a b r e f q = joined (integer_element v) (enumerated_element l) a b r e f q
+security_sized v l x y a b r d g e f q = rw (← d, ← g) (joined (integer_element x) (enumerated_element y) a b r e f q)
 
 pub head-sized : (xs ys challenge unique : List ℕ) (a b c d versions parts r : ℕ) → Sized xs a → Sized ys b → versions ≡ capped (a + b) → Sized (octets_element challenge) c → Sized (octets_element unique) d
     → parts ≡ capped (c + d) → r ≡ capped (versions + parts) → Sized (head_octets xs ys challenge unique) r

@@ -2,12 +2,12 @@
 // sets are cut at their 16 slots and parts at the end of the buffer, as a record's content is.
 #![tactic(auto)]
 
-ghost use Rattle.std.specs.Prelude.{◌≡◌, ◌+◌};
+ghost use Rattle.std.specs.Prelude.{◌≡◌, ℕ, ◌+◌, get_or};
 ghost use Rattle.codec.specs.Integer.{integer_element};
 ghost use Rattle.codec.specs.Element.{chain_octets};
 ghost use Rattle.schema.specs.Rows.{of_kind};
 ghost use Rattle.schema.specs.Content.{enumerated_element, octets_element, root_content, value_element, field_element, nums, trust};
-ghost use Rattle.records.specs.Content.{octets_at, part_of, members_of, root_of, fields_of};
+ghost use Rattle.records.specs.Content.{octets_at, part_of, members_of, root_of, value_at, fields_of};
 ghost use Rattle.sizes.specs.Plain.{plain_value};
 ghost use Rattle.sizes.specs.Size.{capped, element_size, Sized, security_octets, head_elements, Measured};
 
@@ -15,14 +15,14 @@ use der::walk::EXTENSION_BYTES;
 use der_write::{identifier_size, integer_size, length_size};
 use octet_fields::part_octets;
 use records::{FieldList, NumberSet, Part, Record, RootOfTrust, Security};
-use schema::{Kind, ROWS};
+use schema::{Kind, ROWS, Row};
 use shape::set_of;
 
 // Stands for every size over the limit.
 const PAST_LIMIT: usize = EXTENSION_BYTES + 1;
 
 // Of the fields of each list and of the eight elements, without their headers; and of the whole encoding.
-#[derive(Clone, Copy)]
+#[derive(Clone, Copy, Debug, PartialEq, Eq)]
 pub struct Sizes {
     pub software: usize,
     pub hardware: usize,
@@ -34,21 +34,14 @@ pub struct Sizes {
 fn add(a: usize, b: usize) -> usize
     ensures { result ≡ capped (a + b) }
 {
-    if PAST_LIMIT <= a {
-        return PAST_LIMIT;
-    }
-    if PAST_LIMIT - a <= b {
-        return PAST_LIMIT;
-    }
-    a + b
+    a.saturating_add(b).min(PAST_LIMIT)
 }
 
 // An element of this tag number with body content octets.
 fn element_size(number: usize, body: usize) -> usize
     ensures { result ≡ element_size number body }
 {
-    let header = identifier_size(number) + length_size(body);
-    add(header, body)
+    add(identifier_size(number) + length_size(body), body)
 }
 
 // An INTEGER or ENUMERATED.
@@ -63,26 +56,17 @@ fn number_size(x: u64) -> usize
 fn part_size(s: &[u8], p: Part) -> usize
     ensures { Sized (octets_element (part_of s.now p)) result }
 {
-    let t = part_octets(s, p);
-    element_size(4, t.len())
+    element_size(4, part_octets(s, p).len())
 }
 
 // The members of a set, without the set's header.
 pub fn members_size(g: NumberSet) -> usize
     ensures { Sized (chain_octets integer_element (members_of g)) result }
 {
-    let members = g.members;
-    let count = g.count;
-    let mut n: usize = 0;
-    let mut i: usize = 0;
-    while i < 16 {
-        if count <= i {
-            return n;
-        }
-        n = add(n, number_size(members[i] as u64));
-        i += 1;
-    }
-    n
+    g.members
+        .iter()
+        .take(g.count)
+        .fold(0, |n, member| add(n, number_size(u64::from(*member))))
 }
 
 pub fn set_size(g: NumberSet) -> usize
@@ -97,7 +81,7 @@ pub fn root_content_size(s: &[u8], t: RootOfTrust) -> usize
 {
     let key = part_size(s, t.key);
     let locked = add(key, 3);
-    let fixed = add(locked, number_size(t.state as u64));
+    let fixed = add(locked, number_size(u64::from(t.state)));
     if t.hashed {
         return add(fixed, part_size(s, t.hash));
     }
@@ -115,8 +99,7 @@ pub fn plain_size(s: &[u8], kind: Kind, value: u64, size: u64) -> usize
     ensures { Sized (value_element (plain_value s.now (of_kind kind) value size)) result }
 {
     match kind {
-        Kind::Number32 => number_size(value),
-        Kind::Number64 => number_size(value),
+        Kind::Number32 | Kind::Number64 => number_size(value),
         Kind::Octets => part_size(
             s,
             Part {
@@ -128,39 +111,29 @@ pub fn plain_size(s: &[u8], kind: Kind, value: u64, size: u64) -> usize
     }
 }
 
-// The present fields of a list, without the list's header. The list is large: only a set's field copies it.
+// The value of a list's field, by its row and the two numbers that the list keeps for it. A list goes by value as its
+// callers have it: a reference to it costs 2 KB of stack, since the record that holds it is then copied first.
+fn value_size(s: &[u8], l: FieldList, row: Row, value: u64, size: u64) -> usize
+    ensures { (place : ℕ) → value ≡ get_or l.values place 0 → size ≡ get_or l.sizes place 0
+        → Sized (value_element (value_at l (octets_at s.now) row.number (of_kind row.kind) place)) result }
+{
+    match row.kind {
+        Kind::Set => set_size(set_of(row.number, l.purpose, l.digest, l.padding, l.mgf)),
+        Kind::Root => root_size(s, l.root),
+        kind => plain_size(s, kind, value, size),
+    }
+}
+
+// The present fields of a list, without the list's header.
 fn fields_size(s: &[u8], l: FieldList) -> usize
     ensures { Sized (chain_octets field_element (fields_of l (octets_at s.now))) result }
 {
-    let mut n: usize = 0;
-    let mut place: usize = 0;
-    while place < ROWS {
+    let mut n = 0;
+    for place in 0..ROWS {
         if l.present[place] {
             let row = schema::row_at(place);
-            let kind = row.kind;
-            match kind {
-                Kind::Set => {
-                    n = add(
-                        n,
-                        element_size(
-                            row.number,
-                            set_size(set_of(row.number, l.purpose, l.digest, l.padding, l.mgf)),
-                        ),
-                    );
-                    place += 1;
-                }
-                Kind::Root => {
-                    n = add(n, element_size(row.number, root_size(s, l.root)));
-                    place += 1;
-                }
-                _ => {
-                    let value = plain_size(s, kind, l.values[place], l.sizes[place]);
-                    n = add(n, element_size(row.number, value));
-                    place += 1;
-                }
-            }
-        } else {
-            place += 1;
+            let value = value_size(s, l, row, l.values[place], l.sizes[place]);
+            n = add(n, element_size(row.number, value));
         }
     }
     n
@@ -170,22 +143,18 @@ fn fields_size(s: &[u8], l: FieldList) -> usize
 fn security_size(v: Security) -> usize
     ensures { Sized (security_octets v.version v.level) result }
 {
-    let version = number_size(v.version as u64);
-    add(version, number_size(v.level as u64))
+    add(
+        number_size(u64::from(v.version)),
+        number_size(u64::from(v.level)),
+    )
 }
 
 // The six elements before the lists.
-fn head_size(
-    s: &[u8],
-    attestation: Security,
-    keymint: Security,
-    challenge: Part,
-    unique: Part,
-) -> usize
-    ensures { Sized (head_elements s.now attestation keymint challenge unique) result }
+fn head_size(s: &[u8], r: Record) -> usize
+    ensures { Sized (head_elements s.now r.attestation r.keymint r.challenge r.unique) result }
 {
-    let versions = add(security_size(attestation), security_size(keymint));
-    let parts = add(part_size(s, challenge), part_size(s, unique));
+    let versions = add(security_size(r.attestation), security_size(r.keymint));
+    let parts = add(part_size(s, r.challenge), part_size(s, r.unique));
     add(versions, parts)
 }
 
@@ -193,7 +162,7 @@ fn head_size(
 pub fn sizes_of(s: &[u8], r: Record) -> Sizes
     ensures { Measured r s.now result }
 {
-    let head = head_size(s, r.attestation, r.keymint, r.challenge, r.unique);
+    let head = head_size(s, r);
     let software = fields_size(s, r.software);
     let hardware = fields_size(s, r.hardware);
     let lists = add(element_size(16, software), element_size(16, hardware));

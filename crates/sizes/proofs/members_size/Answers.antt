@@ -1,16 +1,19 @@
--- `members_size` meets its contract. The invariant: the members before the i-th are counted. Assumes nothing.
-use Rattle.sizes.proofs.Sizing.{members-start, members_more, members-counted, members_all}
-use borrow.Author.Rules.{rules}
+-- `members_size` meets its contract: what was added so far is the size of the members so far. Assumes nothing.
+use Rattle.std.proofs.Common.{take, sym, subst, rules}
+use Rattle.std.proofs.lemmas.Iterator.{YieldsList, YieldsList-from_slice, YieldsList-from_take}
+use Rattle.std.proofs.lemmas.Fn.{fold_over, fronts}
+use Rattle.std.specs.Iterator.Adapters.{take_steps}
+use Rattle.codec.specs.Integer.{integer_element}
+use Rattle.codec.specs.Element.{chain_octets}
+use Rattle.sizes.specs.Size.{Sized}
+use Rattle.sizes.proofs.Sizing.{nothing, chain_more}
 use Rattle.sizes.proofs.members_size.Goals as goal
 
-pub loop-i-init : goal.loop-i-init
-loop-i-init c = (search rules, search rules, search rules, search members-start)
-
-pub returns-then-count-i : goal.returns-then-count-i
-returns-then-count-i c = search members-counted
-
-pub loop-i-preserved : goal.loop-i-preserved
-loop-i-preserved c = (search rules, search rules, search rules, search members_more)
-
 pub returns : goal.returns
-returns c = search members_all
+returns c =
+    let g = c.args.g in
+    let slots = YieldsList-from_slice g.members cc in
+    let members = YieldsList-from_take g.count (subst (λ i. YieldsList fronts (λ y. y.now) i g.members) (sym c.take.ensures.source) slots) c.take.ensures.count in
+    fold_over (take_steps fronts) (λ x. x.now) _ (λ xs n. Sized (chain_octets integer_element xs) n) _
+    (λ xs n x r f k h. search (rules, chain_more))
+    c.take.result (take g.count g.members) 0 _ members.runs nothing c.fold.ensures.ran

@@ -1,12 +1,9 @@
 -- `plain_size` meets its contract: one law of `Sizes` for each arm. Assumes nothing.
-use Rattle.sizes.proofs.Sizing.{value_number32, value_number64, value-octets, value_null}
+use Rattle.sizes.proofs.Sizing.{value_number, value-octets, value_null}
 use Rattle.sizes.proofs.plain_size.Goals as goal
 
 pub returns-in-Number32 : goal.returns-in-Number32
-returns-in-Number32 c = search value_number32
-
-pub returns-in-Number64 : goal.returns-in-Number64
-returns-in-Number64 c = search value_number64
+returns-in-Number32 c = search value_number
 
 pub returns-in-Octets : goal.returns-in-Octets
 returns-in-Octets c = search value-octets

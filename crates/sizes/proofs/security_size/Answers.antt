@@ -3,4 +3,4 @@ use Rattle.sizes.proofs.Sizing.{security_sized}
 use Rattle.sizes.proofs.security_size.Goals as goal
 
 pub returns : goal.returns
-returns c = search security_sized
+returns c = security_sized _ _ c.from.result c.from-2.result _ _ _ c.from.ensures c.from-2.ensures c.number_size.ensures.integer c.number_size-2.ensures.enumerated c.add.ensures
