@@ -1,7 +1,8 @@
 -- Document 01, "Numbers of the reader and writer": "Writer: 20, 22, 21; a refusal leaves the output untouched, success
 -- changes exactly the encoding's bytes at its front".
-use Rattle.std.specs.Prelude.{◌≡◌, Bool, ◌&&◌, List, ℕ, length, leb}
-use Rattle.answer.specs.Answer.{Answer, got, refused, guard}
+use Rattle.std.specs.Prelude.{◌≡◌, Bool, ◌&&◌, List, ℕ, length, leb, Result}
+use Rattle.answer.specs.declared.Refused.{Refused}
+use Rattle.answer.specs.Answer.{Answer, got, guard, answer_of}
 use Rattle.answer.specs.Refusal.{ill_shaped, encoding_too_long, output_short}
 use Rattle.codec.specs.Limits.{extension_bytes}
 use Rattle.codec.specs.Octets.{left}
@@ -10,7 +11,6 @@ use Rattle.records.specs.Content.{content_of}
 use Rattle.records.specs.Shape.{well_shaped_record}
 use Rattle.records.specs.Parts.{parts_inside}
 use Rattle.records.specs.declared.Record.{Record}
-use Rattle.writer.specs.declared.Written.{Written}
 
 -- "A well-shaped record's encoding is the DER of this section's SEQUENCE with its values and its present fields"
 abbrev pub encoding_of : Record → List ℕ → List ℕ
@@ -33,11 +33,10 @@ abbrev pub left_by : Record → List ℕ → List ℕ → List ℕ
 left_by r s out = left (written r s out) out 0 (encoding_of r s)
 
 -- the code's answer in these terms
-abbrev pub of_written : Written → Answer ℕ
-of_written (Written.Wrote n) = got n
-of_written (Written.Refused number place) = refused number place
+abbrev pub of_written : Result ℕ Refused → Answer ℕ
+of_written = answer_of (λ n. n)
 
 -- all that the contract of `write` says: writing the record r, its parts in s, answers w and leaves after where the output was out
-pub record Writes (r : Record) (s out : List ℕ) (w : Written) (after : List ℕ) : Type 0 where
+pub record Writes (r : Record) (s out : List ℕ) (w : Result ℕ Refused) (after : List ℕ) : Type 0 where
   pub answer : of_written w ≡ written r s out
   pub output : after ≡ left_by r s out

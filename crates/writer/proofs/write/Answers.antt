@@ -24,32 +24,32 @@ returns-then-not-parts_inside-clause-output c =
     let a = c.args in
     (outside a.r a.s.now a.out.now c.well_shaped.result c.well_shaped.ensures (ap not c.if-not-well_shaped.false) c.parts_inside.result c.parts_inside.ensures (ap not c.if-not-parts_inside.true)).1
 
-pub returns-then-size-gt-EXTENSION_BYTES-clause-answer : goal.returns-then-size-gt-EXTENSION_BYTES-clause-answer
-returns-then-size-gt-EXTENSION_BYTES-clause-answer c =
+pub returns-then-sizes-gt-EXTENSION_BYTES-clause-answer : goal.returns-then-sizes-gt-EXTENSION_BYTES-clause-answer
+returns-then-sizes-gt-EXTENSION_BYTES-clause-answer c =
     let a = c.args in
-    (too_long_lem a.r a.s.now a.out.now c.well_shaped.result c.well_shaped.ensures (ap not c.if-not-well_shaped.false) c.parts_inside.result c.parts_inside.ensures (ap not c.if-not-parts_inside.false) c.sizes_of-sizes.result c.sizes_of-sizes.ensures c.if-size-gt-EXTENSION_BYTES.true).0
+    (too_long_lem a.r a.s.now a.out.now c.well_shaped.result c.well_shaped.ensures (ap not c.if-not-well_shaped.false) c.parts_inside.result c.parts_inside.ensures (ap not c.if-not-parts_inside.false) c.sizes_of-sizes.result c.sizes_of-sizes.ensures c.if-sizes-gt-EXTENSION_BYTES.true).0
 
-pub returns-then-size-gt-EXTENSION_BYTES-clause-output : goal.returns-then-size-gt-EXTENSION_BYTES-clause-output
-returns-then-size-gt-EXTENSION_BYTES-clause-output c =
+pub returns-then-sizes-gt-EXTENSION_BYTES-clause-output : goal.returns-then-sizes-gt-EXTENSION_BYTES-clause-output
+returns-then-sizes-gt-EXTENSION_BYTES-clause-output c =
     let a = c.args in
-    (too_long_lem a.r a.s.now a.out.now c.well_shaped.result c.well_shaped.ensures (ap not c.if-not-well_shaped.false) c.parts_inside.result c.parts_inside.ensures (ap not c.if-not-parts_inside.false) c.sizes_of-sizes.result c.sizes_of-sizes.ensures c.if-size-gt-EXTENSION_BYTES.true).1
+    (too_long_lem a.r a.s.now a.out.now c.well_shaped.result c.well_shaped.ensures (ap not c.if-not-well_shaped.false) c.parts_inside.result c.parts_inside.ensures (ap not c.if-not-parts_inside.false) c.sizes_of-sizes.result c.sizes_of-sizes.ensures c.if-sizes-gt-EXTENSION_BYTES.true).1
 
-pub returns-then-room-size-clause-answer : goal.returns-then-room-size-clause-answer
-returns-then-room-size-clause-answer c =
+pub returns-then-out-sizes-clause-answer : goal.returns-then-out-sizes-clause-answer
+returns-then-out-sizes-clause-answer c =
     let a = c.args in
-    (short a.r a.s.now a.out.now c.well_shaped.result c.well_shaped.ensures (ap not c.if-not-well_shaped.false) c.parts_inside.result c.parts_inside.ensures (ap not c.if-not-parts_inside.false) c.sizes_of-sizes.result c.sizes_of-sizes.ensures c.if-size-gt-EXTENSION_BYTES.false c.if-room-size.true).0
+    (short a.r a.s.now a.out.now c.well_shaped.result c.well_shaped.ensures (ap not c.if-not-well_shaped.false) c.parts_inside.result c.parts_inside.ensures (ap not c.if-not-parts_inside.false) c.sizes_of-sizes.result c.sizes_of-sizes.ensures c.if-sizes-gt-EXTENSION_BYTES.false c.if-out-sizes.true).0
 
-pub returns-then-room-size-clause-output : goal.returns-then-room-size-clause-output
-returns-then-room-size-clause-output c =
+pub returns-then-out-sizes-clause-output : goal.returns-then-out-sizes-clause-output
+returns-then-out-sizes-clause-output c =
     let a = c.args in
-    (short a.r a.s.now a.out.now c.well_shaped.result c.well_shaped.ensures (ap not c.if-not-well_shaped.false) c.parts_inside.result c.parts_inside.ensures (ap not c.if-not-parts_inside.false) c.sizes_of-sizes.result c.sizes_of-sizes.ensures c.if-size-gt-EXTENSION_BYTES.false c.if-room-size.true).1
+    (short a.r a.s.now a.out.now c.well_shaped.result c.well_shaped.ensures (ap not c.if-not-well_shaped.false) c.parts_inside.result c.parts_inside.ensures (ap not c.if-not-parts_inside.false) c.sizes_of-sizes.result c.sizes_of-sizes.ensures c.if-sizes-gt-EXTENSION_BYTES.false c.if-out-sizes.true).1
 
 pub returns-clause-answer : goal.returns-clause-answer
 returns-clause-answer c =
     let a = c.args in
-    (wrote a.r a.s.now a.out.now c.well_shaped.result c.well_shaped.ensures (ap not c.if-not-well_shaped.false) c.parts_inside.result c.parts_inside.ensures (ap not c.if-not-parts_inside.false) c.sizes_of-sizes.result c.sizes_of-sizes.ensures c.if-size-gt-EXTENSION_BYTES.false _ _ c.if-room-size.false c.put_extension.ensures).0
+    (wrote a.r a.s.now a.out.now c.well_shaped.result c.well_shaped.ensures (ap not c.if-not-well_shaped.false) c.parts_inside.result c.parts_inside.ensures (ap not c.if-not-parts_inside.false) c.sizes_of-sizes.result c.sizes_of-sizes.ensures c.if-sizes-gt-EXTENSION_BYTES.false _ _ c.if-out-sizes.false c.put_extension.ensures).0
 
 pub returns-clause-output : goal.returns-clause-output
 returns-clause-output c =
     let a = c.args in
-    (wrote a.r a.s.now a.out.now c.well_shaped.result c.well_shaped.ensures (ap not c.if-not-well_shaped.false) c.parts_inside.result c.parts_inside.ensures (ap not c.if-not-parts_inside.false) c.sizes_of-sizes.result c.sizes_of-sizes.ensures c.if-size-gt-EXTENSION_BYTES.false _ _ c.if-room-size.false c.put_extension.ensures).1
+    (wrote a.r a.s.now a.out.now c.well_shaped.result c.well_shaped.ensures (ap not c.if-not-well_shaped.false) c.parts_inside.result c.parts_inside.ensures (ap not c.if-not-parts_inside.false) c.sizes_of-sizes.result c.sizes_of-sizes.ensures c.if-sizes-gt-EXTENSION_BYTES.false _ _ c.if-out-sizes.false c.put_extension.ensures).1
