@@ -1,67 +1,60 @@
--- What a tag says, by its flag and its value; and membership, slot by slot. Assumes nothing.
-use mathlib.Core.Path.{◌≡◌, refl, ◌∙◌}
-use mathlib.Core.Bool.{Bool, true, false, not, ◌||◌}
-use mathlib.Core.List.{List}
-use Prim.Native.Nat.{ℕ, ◌+◌, ◌<◌, ◌≤◌, min}
-use native.Mathlib.Numerals.{add-one}
-use native.Mathlib.Omega.{arith}
+-- What a tag of the code says, and what a test of the tags that are there finds; and membership. Assumes nothing.
+use mathlib.Core.Path.{◌≡◌, refl}
+use mathlib.Core.Bool.{Bool, true, false, ◌&&◌, ◌||◌}
+use mathlib.Core.List.{List, [], ◌∷◌}
+use Rattle.std.specs.List.{list_any}
+use Prim.Native.Nat.{ℕ}
 use lib.Dec.{eqb}
-use lib.ListN.{length, take, drop, get_or, length-take, drop_of_length-le}
-use lib.Seq.{drop-cons, get_or-take}
 use borrow.Author.Tests.{le-ltb, lt-ltb, le-leb, lt-leb, eq-eqb, ne_eqb, not-true, not-false}
-use Rattle.checks.specs.Tags.{there, allows, member}
-use Rattle.checks.specs.Code.{given}
+use Rattle.std.specs.Prelude.{Some, None, is_some, MatchOption, IsTrue}
+use Rattle.std.specs.Prelude as code
+use Rattle.records.specs.Content.{members_of}
+use Rattle.records.specs.declared.NumberSet.{NumberSet}
+use Rattle.checks.specs.Tags.{there, allows, both_allow, member, set_allows}
+use Rattle.checks.specs.Code.{given, seen, of_tag, of_set_tag}
 
 pub there-given : {A : Type 0} (b : Bool) (a : A) → there (given b a) ≡ b
 unfolding there given
 there-given true a = refl
 there-given false a = refl
 
-pub allows-given : {A : Type 0} (f : A → Bool) (b : Bool) (a : A) → allows f (given b a) ≡ (not b || f a)
-unfolding allows given
-allows-given f true a = refl
-allows-given f false a = refl
+-- for checks that are tests of numbers alone
+pub ruleset tests = (le-ltb, lt-ltb, le-leb, lt-leb, eq-eqb, ne_eqb)
 
-pub ruleset tests = (le-ltb, lt-ltb, le-leb, lt-leb, eq-eqb, ne_eqb, there-given, allows-given)
+-- a tag is there where the code has one
+pub there-seen : {T A : Type 0} (f : T → A) (o : code.Option T) → there (seen f o) ≡ is_some o
+unfolding there
+there-seen f None = refl
+there-seen f (Some x) = refl
 
--- ---- a list's tag, where the code tests its flag
+-- for checks that ask just whether a tag is there
+pub ruleset known = (there-seen)
 
-module _ {A : Type 0} (f : A → Bool) (b : Bool) (a : A) where
-  pub absent-allows : not b ≡ true → true ≡ allows f (given b a)
-  unfolding allows given
-  absent-allows n = rw (not-true b n) refl
+-- ---- a tag of each list, where the code asks a test of those that are there
 
-  pub there-allows : not b ≡ false → (x : Bool) → x ≡ f a → x ≡ allows f (given b a)
-  unfolding allows given
-  there-allows n x e = rw (not-false b n) e
+module _ {T : Type 0} (Gives : T → Bool → Type 0) (f : T → Bool) (m : (x : T) (b : Bool) → Gives x b → b ≡ f x) where
+  one-allows : (o : code.Option T) (r : Bool) → MatchOption o (IsTrue r) (λ x. Gives x r) → r ≡ allows f (of_tag o)
+  unfolding allows
+  one-allows None r t = t
+  one-allows (Some x) r t = m x r t
 
--- ---- membership in the first count of the slots
+  pub both-allowed : (s h : code.Option T) (r k : Bool) → MatchOption s (IsTrue r) (λ x. Gives x r) → MatchOption h (IsTrue k) (λ x. Gives x k) → (r && k) ≡ both_allow f (of_tag s) (of_tag h)
+  both-allowed s h r k p q = rw (one-allows s r p, one-allows h k q) refl
 
-module _ (n count i : ℕ) (members : List ℕ) (h : length members ≡ 16) where
-  abbrev pub Ahead : Type 0
-  Ahead = member n (take count members) ≡ member n (drop i (take count members))
+-- a test of what a tag stands for, as a test of the code's
+allows-seen : {T A : Type 0} (v : T → A) (f : A → Bool) (o : code.Option T) → allows f (seen v o) ≡ allows (λ x. f (v x)) (of_tag o)
+unfolding allows
+allows-seen v f None = refl
+allows-seen v f (Some x) = refl
 
-  slots : length (take count members) ≡ min count 16
-  slots = length-take count members ∙ rw h refl
+-- ---- membership
 
-  next : i < count → i < 16 → member n (drop i (take count members)) ≡ (eqb (get_or members i 0) n || member n (drop (i + 1) (take count members)))
-  unfolding member
-  next p q =
-      let l : i < length (take count members) = rw slots (omega arith) in
-      rw (drop-cons (take count members) i 0 l, get_or-take count members i 0 p, add-one i) refl
+pub member_found : (n : ℕ) (xs : List ℕ) → list_any (λ x. eqb x n) xs ≡ member n xs
+unfolding member
+member_found n [] = refl
+member_found n (x ∷ xs) = rw (member_found n xs) refl
 
-  none_ahead : Ahead → min count 16 ≤ i → false ≡ member n (take count members)
-  unfolding member
-  none_ahead e p = let l : length (take count members) ≤ i = rw slots p in rw (e, drop_of_length-le (take count members) l) refl
-
-  pub counted_out : Ahead → count ≤ i → false ≡ member n (take count members)
-  counted_out e p = none_ahead e (omega arith)
-
-  pub slots_out : Ahead → 16 ≤ i → false ≡ member n (take count members)
-  slots_out e p = none_ahead e (omega arith)
-
-  pub member_found : Ahead → i < count → i < 16 → get_or members i 0 ≡ n → true ≡ member n (take count members)
-  member_found e p q f = rw (e, next p q, eq-eqb (get_or members i 0) n f) refl
-
-  pub member_passed : Ahead → i < count → i < 16 → (get_or members i 0 ≡ n → ⊥) → member n (take count members) ≡ member n (drop (i + 1) (take count members))
-  member_passed e p q f = rw (e, next p q, ne_eqb (get_or members i 0) n f) refl
+pub sets-allowed : (n : ℕ) (s h : code.Option NumberSet) (i j k : Bool) → i ≡ is_some s → j ≡ is_some h → k ≡ both_allow (λ g. member n (members_of g)) (of_tag s) (of_tag h)
+    → ((i || j) && k) ≡ set_allows n (of_set_tag s) (of_set_tag h)
+sets-allowed n s h i j k e f g =
+    rw (there-seen members_of s, there-seen members_of h, allows-seen members_of (member n) s, allows-seen members_of (member n) h, e, f, g) refl

@@ -1,21 +1,16 @@
--- `checks::holds` meets its contract. The invariant: n is a member exactly if it is one from slot i on.
--- Assumes nothing.
-use mathlib.Core.Path.{refl}
-use Rattle.checks.proofs.Tags.{counted_out, slots_out, member_found, member_passed}
+-- `checks::holds` meets its contract: some member of those that count is n. Assumes nothing.
+use mathlib.Core.Path.{◌∙◌}
+use lib.Dec.{eqb}
 use borrow.Author.Rules.{rules}
+use Rattle.std.proofs.Common.{tests}
+use Rattle.std.proofs.lemmas.Iterator.{YieldsList-from_slice, YieldsList-from_take}
+use Rattle.std.proofs.lemmas.Iterator.Search.{any_from_yields_List}
+use Rattle.checks.proofs.Tags.{member_found}
 use Rattle.checks.proofs.holds.Goals as goal
 
-pub loop-i-init : goal.loop-i-init
-loop-i-init c = (search rules, search rules, refl)
-
-pub returns-then-count-i : goal.returns-then-count-i
-returns-then-count-i c = search counted_out
-
-pub returns-then-members-i : goal.returns-then-members-i
-returns-then-members-i c = search member_found
-
-pub loop-i-preserved : goal.loop-i-preserved
-loop-i-preserved c = (search rules, search rules, search member_passed)
-
 pub returns : goal.returns
-returns c = search slots_out
+returns c =
+    any_from_yields_List (λ x. eqb x c.args.n) _ _ _ c.any.ensures.ran
+    (YieldsList-from_take c.args.g.count (YieldsList-from_slice c.args.g.members cc) cc)
+    (λ x b q k. search (rules, tests))
+    ∙ member_found c.args.n _
