@@ -4,13 +4,13 @@ use mathlib.Core.Path.{◌≡◌, refl, ap, ◌∙◌}
 use mathlib.Core.Bool.{Bool, true, false, not, ◌&&◌, ◌||◌}
 use mathlib.Core.Option.{none, some}
 use mathlib.Core.List.{List, [], ◌∷◌}
-use Prim.Native.Nat.{ℕ, zero, suc, ◌+◌, ◌<◌, ◌≤◌}
+use Prim.Native.Nat.{ℕ, ◌<◌, ◌≤◌}
 use native.Mathlib.Omega.{arith}
 use lib.ListN.{length, get_or}
 use lib.Dec.{eqb, lit<}
+use lib.Pointwise.{pointwise}
 use borrow.Author.Tests.{eq-eqb, ne_eqb, le-leb, lt-leb, not-true, not-false}
 use Rattle.answer.specs.Answer.{Answer, got, refused, guard, pick}
-use Rattle.answer.proofs.Logic.{by_le}
 use Rattle.schema.specs.Table.{rows}
 use Rattle.schema.specs.Content.{RootWith, num, trust, Place, place_at}
 use Rattle.records.specs.Equal.{present_at}
@@ -25,59 +25,25 @@ use Rattle.enrolment.specs.Enrolled.{same_octets, challenge_met, either_software
 
 -- ---- the challenge
 
+same_pointwise : (xs ys : List ℕ) → pointwise eqb xs ys ≡ same_octets xs ys
+unfolding same_octets
+same_pointwise [] [] = refl
+same_pointwise [] (y ∷ ys) = refl
+same_pointwise (x ∷ xs) [] = refl
+same_pointwise (x ∷ xs) (y ∷ ys) = rw (same_pointwise xs ys) refl
+
 module _ (expected challenge : List ℕ) where
   pub challenge-none : length expected < 1 → false ≡ challenge_met expected challenge
   unfolding challenge_met
   challenge-none h = rw (lt-leb 1 (length expected) h) refl
 
-  pub challenge-long : 1 ≤ length expected → 128 < length expected → false ≡ challenge_met expected challenge
+  pub challenge-long : 128 < length expected → false ≡ challenge_met expected challenge
   unfolding challenge_met
-  challenge-long l h = rw (le-leb 1 (length expected) l, lt-leb (length expected) 128 h) refl
+  challenge-long h = rw (lt-leb (length expected) 128 h, le-leb 1 (length expected) (omega arith)) refl
 
-  pub challenge-same : 1 ≤ length expected → length expected ≤ 128 → (b : Bool) → b ≡ same_octets expected challenge → b ≡ challenge_met expected challenge
+  pub challenge-same : 1 ≤ length expected → length expected ≤ 128 → (b : Bool) → b ≡ pointwise eqb expected challenge → b ≡ challenge_met expected challenge
   unfolding challenge_met
-  challenge-same l h b e = rw (le-leb 1 (length expected) l, le-leb (length expected) 128 h) e
-
-and_none : (a b : Bool) → false ≡ b → false ≡ a && b
-and_none true b e = e
-and_none false b e = refl
-
--- octets that differ in length
-pub same-short : (xs ys : List ℕ) → (length xs ≡ length ys → ⊥) → false ≡ same_octets xs ys
-unfolding same_octets
-same-short [] [] n = absurd (n refl)
-same-short [] (y ∷ ys) n = refl
-same-short (x ∷ xs) [] n = refl
-same-short (x ∷ xs) (y ∷ ys) n = and_none (eqb x y) (same_octets xs ys) (same-short xs ys (λ e. n (ap suc e)))
-
--- octets that differ at i
-pub same_differs : (xs ys : List ℕ) (i : ℕ) → i < length xs → length xs ≡ length ys → (get_or xs i 0 ≡ get_or ys i 0 → ⊥) → false ≡ same_octets xs ys
-unfolding same_octets
-same_differs [] ys i h l n = absurd (omega arith)
-same_differs (x ∷ xs) [] i h l n = absurd (omega (arith, l))
-same_differs (x ∷ xs) (y ∷ ys) zero h l n = rw (ne_eqb x y n) refl
-same_differs (x ∷ xs) (y ∷ ys) (suc i) h l n = and_none (eqb x y) (same_octets xs ys) (same_differs xs ys i (omega arith) (omega (arith, l)) n)
-
--- the first n are the same
-pub record SameUpTo (xs ys : List ℕ) (n : ℕ) : Type 0 where
-  pub at : (i : ℕ) → i < n → get_or xs i 0 ≡ get_or ys i 0
-
-pub same_none : (xs ys : List ℕ) → SameUpTo xs ys 0
-same_none xs ys = record { at = λ i h. absurd (omega arith) }
-
-pub same_more : (xs ys : List ℕ) (n : ℕ) → SameUpTo xs ys n → get_or xs n 0 ≡ get_or ys n 0 → SameUpTo xs ys (n + 1)
-same_more xs ys n s e = record { at = λ i h. upto i h }
-  where
-    upto : (i : ℕ) → i < n + 1 → get_or xs i 0 ≡ get_or ys i 0
-    upto i h = by_le n i (λ g. let z : i ≡ n = omega arith in rw z e) (λ g. s.at i g)
-
-pub same_all : (xs ys : List ℕ) (n : ℕ) → length xs ≡ length ys → length xs ≤ n → SameUpTo xs ys n → true ≡ same_octets xs ys
-unfolding same_octets
-same_all [] [] n l h s = refl
-same_all [] (y ∷ ys) n l h s = absurd (omega (arith, l))
-same_all (x ∷ xs) [] n l h s = absurd (omega (arith, l))
-same_all (x ∷ xs) (y ∷ ys) zero l h s = absurd (omega arith)
-same_all (x ∷ xs) (y ∷ ys) (suc n) l h s = rw (eq-eqb x y (s.at 0 (omega arith))) (same_all xs ys n (omega (arith, l)) (omega arith) (record { at = λ i g. s.at (suc i) (omega arith) }))
+  challenge-same l h b e = rw (le-leb 1 (length expected) l, le-leb (length expected) 128 h) (e ∙ same_pointwise expected challenge)
 
 -- ---- what the hardware list says, by its rows
 
@@ -124,13 +90,9 @@ module _ (l : FieldList) where
   root-row : (f : RootWith Place → Bool) → root_is f (field_value (fields_of l place_at) 704) ≡ present_at l 26 && f (root_of place_at l.root)
   root-row f = ap (root_is f) root-value ∙ root_at f (present_at l 26) (root_of place_at l.root)
 
-  pub not_generated : not (present_at l 24) ≡ true → false ≡ generated (fields_of l place_at)
+  pub origin_read : (present_at l 24 && eqb (get_or l.values 24 0) 0) ≡ generated (fields_of l place_at)
   unfolding generated
-  not_generated n = rw (origin_row (λ n. eqb n 0), not-true (present_at l 24) n) refl
-
-  pub origin_read : not (present_at l 24) ≡ false → eqb (get_or l.values 24 0) 0 ≡ generated (fields_of l place_at)
-  unfolding generated
-  origin_read n = rw (origin_row (λ n. eqb n 0), not-false (present_at l 24) n) refl
+  origin_read = rw (origin_row (λ n. eqb n 0)) refl
 
   module _ (level keymint_level : ℕ) (met : Bool) where
     abbrev from_55 : Answer (Unit {0})

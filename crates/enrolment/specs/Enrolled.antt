@@ -2,7 +2,9 @@
 -- 54 ..; 55 ..". Each test says that its refusal does not hold.
 use Rattle.std.specs.Prelude.{Bool, true, false, not, ◌&&◌, ◌||◌, List, [], ◌∷◌, ℕ, length, eqb, leb}
 use Rattle.std.proofs.Math.Option.{Option, none, some}
-use Rattle.answer.specs.Answer.{Answer, got, refused, guard}
+use Rattle.std.specs.Prelude.{Result}
+use Rattle.answer.specs.Answer.{Answer, got, guard, answer_of}
+use Rattle.answer.specs.declared.Refused.{Refused}
 use Rattle.answer.specs.Refusal.{ill_shaped, challenge_differs, software_level, no_root_of_trust, boot_unlocked, boot_not_verified, origin_not_generated}
 use Rattle.schema.specs.Content.{RootWith, ValueWith, num, nul, oct, nums, trust, FieldWith, Place, place_at}
 use Rattle.records.specs.Content.{part_of, fields_of}
@@ -10,7 +12,6 @@ use Rattle.records.specs.Fields.{field_value}
 use Rattle.records.specs.Shape.{well_shaped_record}
 use Rattle.records.specs.Parts.{parts_inside}
 use Rattle.records.specs.declared.Record.{Record}
-use Rattle.enrolment.specs.declared.Enrolment.{Enrolment}
 
 -- octets that are the same, one by one
 unfoldable pub same_octets : List ℕ → List ℕ → Bool
@@ -84,6 +85,5 @@ enrolled r s expected =
     (judged r.attestation.level r.keymint.level (fields_of r.hardware place_at) (challenge_met expected (part_of s r.challenge))))
 
 -- the code's answer in these terms
-abbrev pub of_enrolment : Enrolment → Answer (Unit {0})
-of_enrolment Enrolment.Enrolled = got tt
-of_enrolment (Enrolment.Refused number place) = refused number place
+abbrev pub of_enrolment : Result (Unit {0}) Refused → Answer (Unit {0})
+of_enrolment a = answer_of (λ x. x) a

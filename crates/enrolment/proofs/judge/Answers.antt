@@ -11,11 +11,11 @@ returns-then-level-keymint_level c = search software-level
 pub returns-then-not-hardware : goal.returns-then-not-hardware
 returns-then-not-hardware c = search no_root
 
-pub returns-then-not-root : goal.returns-then-not-root
-returns-then-not-root c = search unlocked
+pub returns-then-not-hardware-2 : goal.returns-then-not-hardware-2
+returns-then-not-hardware-2 c = search unlocked
 
-pub returns-then-root-ne0 : goal.returns-then-root-ne0
-returns-then-root-ne0 c = search not_verified
+pub returns-then-hardware-ne0 : goal.returns-then-hardware-ne0
+returns-then-hardware-ne0 c = search not_verified
 
 pub returns-then-not-generated : goal.returns-then-not-generated
 returns-then-not-generated c = search other_origin
