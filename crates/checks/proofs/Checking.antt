@@ -5,14 +5,15 @@ use mathlib.Core.Bool.{Bool, true, false, not, ◌&&◌, ◌||◌}
 use Prim.Native.Nat.{ℕ, ◌+◌, ◌*◌, ◌-◌, ◌/◌, ◌%◌, ◌<◌, ◌≤◌, min}
 use native.Mathlib.Nat.{div-add-mod', mod-lt}
 use native.Mathlib.Omega.{arith}
+use lib.Bits.{bit_and}
 use lib.Dec.{eqb, leb, ltb, lit<}
 use borrow.Author.Tests.{le-ltb, lt-ltb, le-leb, lt-leb}
 use Rattle.answer.specs.Answer.{pick}
 use Rattle.answer.proofs.Logic.{by_le}
 use Rattle.checks.specs.Tags.{both_allow}
 use Rattle.checks.specs.Checks.{digest_bytes, key_bytes, looks_at_key_size, key_size_refused, recent, fresh_refused}
-use Rattle.checks.specs.Code.{of_number_tag}
-use Rattle.std.specs.Prelude.{Some, None, is_some, MatchOption, SomeIff}
+use Rattle.checks.specs.Code.{of_number_tag, or_zero}
+use Rattle.std.specs.Prelude.{Some, None, is_some, unwrap_or, MatchOption, SomeIff}
 use Rattle.std.specs.Prelude as code
 use Rattle.checks.proofs.Tags.{there-seen}
 
@@ -68,3 +69,11 @@ pub key_refused : (p a m d : ℕ) (s h : code.Option ℕ) (l i j k : Bool) → l
     → (l && not ((i || j) && k)) ≡ key_size_refused p a m d (of_number_tag s) (of_number_tag h)
 unfolding key_size_refused
 key_refused p a m d s h l i j k x e f g = simp there-seen (rw (← x, ← e, ← f, ← g) refl)
+
+-- ---- 40
+
+-- no token shares no bit
+pub shares : (kinds : code.Option ℕ) (wanted k : ℕ) → k ≡ unwrap_or kinds 0 → not (eqb (bit_and k wanted) 0) ≡ (is_some kinds && not (eqb (bit_and (or_zero (of_number_tag kinds)) wanted) 0))
+unfolding or_zero
+shares None wanted k e = rw e refl
+shares (Some x) wanted k e = rw e refl

@@ -3,7 +3,7 @@
 // to save by not asking.
 #![tactic(auto)]
 
-ghost use Rattle.std.specs.Prelude.{◌≡◌, ◌+◌, ◌*◌, ◌≤◌, Bool, leb};
+ghost use Rattle.std.specs.Prelude.{◌≡◌, ◌+◌, ◌*◌, ◌≤◌, Bool, leb, is_some};
 ghost use Rattle.answer.specs.Answer.{pick};
 ghost use Rattle.records.specs.Content.{members_of};
 ghost use Rattle.checks.specs.Tags.{member, both_allow, set_allows};
@@ -237,11 +237,13 @@ pub fn auth_missing(ns: bool, nh: bool, s: Option<u64>, h: Option<u64>) -> bool
     !((ns | nh) | (s.is_some() | h.is_some()))
 }
 
-// 40: no token, or one whose type shares no bit with a 504.
-pub fn token_refused(token: bool, kinds: u64, s: Option<u64>, h: Option<u64>) -> bool
-    ensures { result ≡ token_refused token kinds (of_number_tag s) (of_number_tag h) }
+// 40: no token, or one whose type shares no bit with a 504; kinds is the token's type, if there is one.
+pub fn token_refused(kinds: Option<u64>, s: Option<u64>, h: Option<u64>) -> bool
+    ensures { result ≡ token_refused (is_some kinds) (or_zero (of_number_tag kinds)) (of_number_tag s) (of_number_tag h) }
 {
-    !both_allow(s, h, |wanted| token & (kinds & wanted != 0))
+    // No token has no type, and shares no bit.
+    let kinds = kinds.unwrap_or(0);
+    !both_allow(s, h, |wanted| kinds & wanted != 0)
 }
 
 // Whether a token of this time is at most so many seconds old. The seconds are compared, as 1000 times them could wrap.

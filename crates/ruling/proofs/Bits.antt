@@ -1,19 +1,21 @@
--- A mark, bit by bit from the highest, and the marks of a permit. Assumes nothing.
+-- A mark, bit by bit from the highest, and what was looked at. Assumes nothing.
 use mathlib.Core.Path.{◌≡◌, refl, subst, ◌∙◌}
-use mathlib.Core.Bool.{Bool, true, false, not, ◌&&◌, ◌||◌}
+use mathlib.Core.Bool.{Bool, true, false, not, ◌&&◌}
 use mathlib.Core.List.{List, [], ◌∷◌}
 use Prim.Native.Nat.{ℕ, suc, ◌+◌, ◌*◌, ◌-◌, ◌%◌, ◌<◌, ◌≤◌, ◌^◌}
 use native.Mathlib.Nat.{mod-eq_of_lt, pow-suc, lt_of_lt_of_le}
 use native.Mathlib.Omega.{arith}
-use lib.Bits.{bit_or, or_shifted}
-use lib.Count.{ones}
+use lib.Bits.{bit_or, or_shifted, or_zero_r}
 use lib.Dec.{eqb, lit<}
 use lib.ListN.{length, drop, get_or, length-drop, drop_of_length-le}
 use lib.Pow.{pow_mono}
 use lib.Seq.{drop-cons}
-use Rattle.answer.specs.Answer.{Answer, got, pick}
+use mir.Val.{bool_byte}
+use Rattle.std.specs.Prelude.{Some, None, MatchOption}
+use Rattle.std.specs.Prelude as code
 use Rattle.checks.specs.Checks.{looks_at_padding, looks_at_digest, looks_at_key_size, signs}
-use Rattle.ruling.specs.Ruling.{bit, looked, mark_of, Permit, permit, permit_of}
+use Rattle.checks.specs.Code.{of_number_tag, or_zero}
+use Rattle.ruling.specs.Ruling.{bit, looked, mark_of}
 
 -- ---- one bit more
 
@@ -21,13 +23,13 @@ module _ (mark : ℕ) (h : mark < 2 ^ 15) (b : Bool) where
   shifted : (mark * 2) % 65536 ≡ mark * 2
   shifted = mod-eq_of_lt (omega arith)
 
-  pub bit-set : b ≡ true → bit_or ((mark * 2) % 65536) 1 ≡ bit b + 2 * mark
+  pub bit-joined : bit_or ((mark * 2) % 65536) (bool_byte b) ≡ bit b + 2 * mark
   unfolding bit
-  bit-set e = rw (e, shifted, or_shifted mark 1 1 (lit< tt)) (omega arith)
-
-  pub bit-clear : b ≡ false → (mark * 2) % 65536 ≡ bit b + 2 * mark
-  unfolding bit
-  bit-clear e = rw (e, shifted) (omega arith)
+  bit-joined = go b
+    where
+      go : (b : Bool) → bit_or ((mark * 2) % 65536) (bool_byte b) ≡ bit b + 2 * mark
+      go true = rw (shifted, or_shifted mark 1 1 (lit< tt)) (omega arith)
+      go false = rw (shifted, or_zero_r (mark * 2)) (omega arith)
 
 -- ---- a mark of n tags is below 2 ^ n
 
@@ -71,18 +73,18 @@ module _ (bs ls : List Bool) where
 
 -- ---- what was looked at
 
+nothing-of_none : (b : Bool) → false ≡ (b && false)
+nothing-of_none true = refl
+nothing-of_none false = refl
+
+-- no algorithm has no key size to look at
+pub key_size_asked : (p m : ℕ) (Gives : ℕ → Type 0) (a : code.Option ℕ) (r : Bool) → MatchOption a (r ≡ false) Gives → ((x : ℕ) → Gives x → r ≡ looks_at_key_size p x m)
+    → r ≡ looks_at_key_size p (or_zero (of_number_tag a)) m
+unfolding or_zero
+key_size_asked p m Gives None r e f = e ∙ nothing-of_none (eqb p 2)
+key_size_asked p m Gives (Some x) r e f = f x e
+
 pub looked_by : (p a m : ℕ) (auth u v w x : Bool) → u ≡ looks_at_padding p → v ≡ looks_at_digest p m → w ≡ looks_at_key_size p a m → x ≡ signs p
     → true ∷ true ∷ u ∷ v ∷ w ∷ true ∷ x ∷ not x ∷ true ∷ auth ∷ true ∷ true ∷ true ∷ true ∷ true ∷ not auth ∷ [] ≡ looked p a m auth
 unfolding looked
 looked_by p a m auth u v w x e f g h = rw (e, f, g, h) refl
-
--- ---- the marks of a permit
-
-module _ (level keymint_level hardware software : ℕ) where
-  pub permit_joined : (eqb level 0 || eqb keymint_level 0) ≡ true → ◌≡◌ {A = Answer Permit} (got (record { hardware = 0; hardware_bits = 0; software = bit_or hardware software; software_bits = ones (bit_or hardware software) })) (got (permit_of level keymint_level hardware software))
-  unfolding permit_of permit pick ones
-  permit_joined e = rw e refl
-
-  pub permit_apart : (eqb level 0 || eqb keymint_level 0) ≡ false → ◌≡◌ {A = Answer Permit} (got (record { hardware = hardware; hardware_bits = ones hardware; software = software; software_bits = ones software })) (got (permit_of level keymint_level hardware software))
-  unfolding permit_of permit pick
-  permit_apart e = rw e refl

@@ -6,11 +6,16 @@ use mathlib.Core.List.{List, [], ◌∷◌, ◌++◌}
 use Prim.Native.Nat.{ℕ, suc, ◌<◌, ◌≤◌}
 use native.Mathlib.Omega.{arith}
 use lib.Dec.{T, leb, ltb, ltb→lt}
+use Rattle.std.specs.Prelude.{Result, Ok, Err}
 use Rattle.answer.specs.Answer.{pick}
+use Rattle.answer.specs.Refusal.{number_of}
+use Rattle.answer.specs.declared.Refusal.{Refusal}
 use Rattle.answer.specs.Sentences.{Says, SaysFirst}
 use Rattle.answer.proofs.Sentences.{ascending, says-from}
 use Rattle.answer.proofs.Logic.{and_left, and_right}
+use Rattle.checks.specs.Checks.{algorithm_fits}
 use Rattle.ruling.specs.Rules.{Rules}
+use Rattle.ruling.specs.Code.{number_or_zero}
 use Rattle.ruling.specs.Ruling.{Check, first_refusing, shape_checks, date_checks, token_checks, device_checks, checks}
 use Rattle.ruling.specs.declared.request.Request.{Request}
 use Rattle.ruling.proofs.Means.{Means}
@@ -29,6 +34,13 @@ module _ (n : ℕ) {x y : Bool} (cs : List Check) (e : y ≡ x) where
 pub none_left : 0 ≡ first_refusing []
 unfolding first_refusing
 none_left = refl
+
+-- no algorithm fits no purpose
+pub none_fits : (p : ℕ) → algorithm_fits p 0 ≡ false
+unfolding algorithm_fits
+none_fits p = refl
+
+pub ruleset unfit = (none_fits)
 
 -- ---- group by group
 
@@ -49,6 +61,56 @@ first_later [] ds t e = refl
 first_later ((n, true) ∷ cs) ds t e = let h : 0 < n = ltb→lt 0 n (and_left (ltb 0 n) (numbered cs) t) in absurd (omega arith)
 first_later ((n, false) ∷ cs) ds t e = first_later cs ds (and_right (ltb 0 n) (numbered cs) t) e
 
+-- no refusal has the number 0
+abbrev above : Refusal → Bool
+above r = ltb 0 (number_of r)
+
+has_number : (r : Refusal) → T (above r)
+has_number Refusal.TooLong = tt
+has_number Refusal.RunsOut = tt
+has_number Refusal.BadIdentifier = tt
+has_number Refusal.BadLength = tt
+has_number Refusal.TooDeep = tt
+has_number Refusal.TooManyElements = tt
+has_number Refusal.SpareBytes = tt
+has_number Refusal.UnknownVersion = tt
+has_number Refusal.WrongElement = tt
+has_number Refusal.BadContent = tt
+has_number Refusal.NotInVersion = tt
+has_number Refusal.FieldOrder = tt
+has_number Refusal.MemberOrder = tt
+has_number Refusal.TooManyMembers = tt
+has_number Refusal.IllShaped = tt
+has_number Refusal.OutputShort = tt
+has_number Refusal.EncodingTooLong = tt
+has_number Refusal.PurposeUnknown = tt
+has_number Refusal.PurposeNotAllowed = tt
+has_number Refusal.AlgorithmUnfit = tt
+has_number Refusal.PaddingNotAllowed = tt
+has_number Refusal.DigestNotAllowed = tt
+has_number Refusal.KeyTooSmall = tt
+has_number Refusal.ClockBelowFloor = tt
+has_number Refusal.NotYetActive = tt
+has_number Refusal.Expired = tt
+has_number Refusal.NoAuthRule = tt
+has_number Refusal.TokenUnfit = tt
+has_number Refusal.TokenNotFresh = tt
+has_number Refusal.DeviceLocked = tt
+has_number Refusal.UserNotPresent = tt
+has_number Refusal.NotConfirmed = tt
+has_number Refusal.EarlyBootOver = tt
+has_number Refusal.UsedUp = tt
+has_number Refusal.ChallengeDiffers = tt
+has_number Refusal.SoftwareLevel = tt
+has_number Refusal.NoRootOfTrust = tt
+has_number Refusal.BootUnlocked = tt
+has_number Refusal.BootNotVerified = tt
+has_number Refusal.OriginNotGenerated = tt
+has_number Refusal.ShortImage = tt
+
+pub above_0 : (r : Refusal) → number_of r ≡ 0 → ⊥
+above_0 r e = let l : 0 < number_of r = ltb→lt 0 (number_of r) (has_number r) in omega arith
+
 module _ (s h : Rules) (q : Request) where
   shapes : T (numbered (shape_checks s h q))
   unfolding shape_checks
@@ -62,26 +124,27 @@ module _ (s h : Rules) (q : Request) where
   unfolding token_checks
   tokens = tt
 
-  module _ (a : ℕ) (e : a ≡ first_refusing (shape_checks s h q)) where
-    pub first-shape : (a ≡ 0 → ⊥) → a ≡ first_refusing (checks s h q)
-    first-shape n = e ∙ first_here (shape_checks s h q) (date_checks s h q ++ (token_checks s h q ++ device_checks s h q)) (λ z. n (e ∙ z))
+  -- what the groups answer in turn
+  module _ (a : Result (Unit {0}) Refusal) (e : number_or_zero a ≡ first_refusing (shape_checks s h q)) where
+    pub first-shape : (x : Refusal) → a ≡ Err x → number_of x ≡ first_refusing (checks s h q)
+    first-shape x r = (rw r at e) ∙ first_here (shape_checks s h q) (date_checks s h q ++ (token_checks s h q ++ device_checks s h q)) (λ z. above_0 x ((rw r at e) ∙ z))
 
-    module _ (i : a ≡ 0) (b : ℕ) (f : b ≡ first_refusing (date_checks s h q)) where
+    module _ (i : a ≡ Ok tt) (b : Result (Unit {0}) Refusal) (f : number_or_zero b ≡ first_refusing (date_checks s h q)) where
       past_shape : first_refusing (date_checks s h q ++ (token_checks s h q ++ device_checks s h q)) ≡ first_refusing (checks s h q)
-      past_shape = first_later (shape_checks s h q) (date_checks s h q ++ (token_checks s h q ++ device_checks s h q)) shapes (sym e ∙ i)
+      past_shape = first_later (shape_checks s h q) (date_checks s h q ++ (token_checks s h q ++ device_checks s h q)) shapes (sym (rw i at e))
 
-      pub first_date : (b ≡ 0 → ⊥) → b ≡ first_refusing (checks s h q)
-      first_date n = f ∙ first_here (date_checks s h q) (token_checks s h q ++ device_checks s h q) (λ z. n (f ∙ z)) ∙ past_shape
+      pub first_date : (x : Refusal) → b ≡ Err x → number_of x ≡ first_refusing (checks s h q)
+      first_date x r = (rw r at f) ∙ first_here (date_checks s h q) (token_checks s h q ++ device_checks s h q) (λ z. above_0 x ((rw r at f) ∙ z)) ∙ past_shape
 
-      module _ (j : b ≡ 0) (c : ℕ) (g : c ≡ first_refusing (token_checks s h q)) where
+      module _ (j : b ≡ Ok tt) (c : Result (Unit {0}) Refusal) (g : number_or_zero c ≡ first_refusing (token_checks s h q)) where
         past_date : first_refusing (token_checks s h q ++ device_checks s h q) ≡ first_refusing (checks s h q)
-        past_date = first_later (date_checks s h q) (token_checks s h q ++ device_checks s h q) dates (sym f ∙ j) ∙ past_shape
+        past_date = first_later (date_checks s h q) (token_checks s h q ++ device_checks s h q) dates (sym (rw j at f)) ∙ past_shape
 
-        pub first-token : (c ≡ 0 → ⊥) → c ≡ first_refusing (checks s h q)
-        first-token n = g ∙ first_here (token_checks s h q) (device_checks s h q) (λ z. n (g ∙ z)) ∙ past_date
+        pub first-token : (x : Refusal) → c ≡ Err x → number_of x ≡ first_refusing (checks s h q)
+        first-token x r = (rw r at g) ∙ first_here (token_checks s h q) (device_checks s h q) (λ z. above_0 x ((rw r at g) ∙ z)) ∙ past_date
 
-        pub first_device : c ≡ 0 → (d : ℕ) → d ≡ first_refusing (device_checks s h q) → d ≡ first_refusing (checks s h q)
-        first_device k d l = l ∙ first_later (token_checks s h q) (device_checks s h q) tokens (sym g ∙ k) ∙ past_date
+        pub first_device : c ≡ Ok tt → (d : ℕ) → d ≡ first_refusing (device_checks s h q) → d ≡ first_refusing (checks s h q)
+        first_device k d l = l ∙ first_later (token_checks s h q) (device_checks s h q) tokens (sym (rw k at g)) ∙ past_date
 
   pub all_numbered : T (numbered (checks s h q))
   unfolding shape_checks date_checks token_checks device_checks

@@ -1,6 +1,7 @@
 pub mod TagRows
 pub mod Bits
 pub mod First
+pub mod Tokens
 pub mod Answers
 pub mod Means
 pub mod CheckMeanings

@@ -17,6 +17,7 @@ use Rattle.ruling.specs.Rules.{Rules}
 use Rattle.ruling.specs.Ruling.{first_refusing, shape_checks, date_checks, token_checks, device_checks, checks, Permit, permit_of, looked_at, mark_of, held_tags, unless, ruled, ruling}
 use Rattle.ruling.specs.Statements.{software_rules, hardware_rules, PermittedExactly, RecordPermittedExactly, IllShapedIs20, WellShapedIsRuled, RefusalIsFirst, RefusedExactly}
 use Rattle.ruling.specs.Refuses.{sentences}
+use Rattle.ruling.specs.Token.{token_challenge, token_kinds, token_there, token_time}
 use Rattle.ruling.specs.declared.request.Request.{Request}
 use Rattle.ruling.proofs.First.{Finds, all_numbered, none-refuses, clear_first, first_says, says_first}
 use Rattle.ruling.proofs.Means.{equal}
@@ -79,8 +80,8 @@ found s h q =
     next (finds_37 q.clock s.active h.active) λ k37.
     next (finds_38 p q.clock known s.origination h.origination s.usage h.usage) λ k38.
     next (finds_39 s.no_auth h.no_auth s.auth_type h.auth_type) λ k39.
-    next (finds_40 q.token.there q.token.kinds s.auth_type h.auth_type) λ k40.
-    next (finds_41 q.uptime q.token.time q.handle q.token.challenge s.auth_type h.auth_type s.auth_timeout h.auth_timeout) λ k41.
+    next (finds_40 (token_there q) (token_kinds q) s.auth_type h.auth_type) λ k40.
+    next (finds_41 q.uptime (token_time q) q.handle (token_challenge q) s.auth_type h.auth_type s.auth_timeout h.auth_timeout) λ k41.
     next (finds_so s.unlocked h.unlocked q.locked) λ k42.
     next (finds_not_so s.presence h.presence q.present) λ k43.
     next (finds_not_so s.confirmation h.confirmation q.confirmed) λ k44.

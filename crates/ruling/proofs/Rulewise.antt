@@ -12,6 +12,7 @@ use Rattle.checks.specs.Checks.{agreed, expiry, clock_refused, expiry_refused}
 use Rattle.ruling.specs.Ruling.{shape_checks, date_checks, token_checks, device_checks, checks}
 use Rattle.ruling.specs.Allowed.{Held, EachHeld, Allowed, Signing, Deciphering}
 use Rattle.ruling.specs.Refuses.{Fits}
+use Rattle.ruling.specs.Token.{token_challenge, token_kinds, token_there, token_time}
 use Rattle.ruling.specs.declared.request.Request.{Request}
 use Rattle.ruling.proofs.First.{Clear}
 use Rattle.ruling.proofs.CheckMeanings.{means_30, means_31, means_32, means_33, means_34, means_35, means_36, means_37, means_38, signing, deciphering, means_39, means_40, means_41, means_forbids, means_wants, means_46}
@@ -72,7 +73,7 @@ module _ (s h : Rules) (q : Request) where
       let pads = (means_33 p algorithm m s.padding h.padding).to k33 in
       let digs = (means_34 p algorithm m d s.digest h.digest).to k34 in
       let says = agreed-says s.algorithm h.algorithm (not_none p algorithm fits) in
-      let fresh = (means_41 q.uptime q.token.time q.handle q.token.challenge s.auth_type h.auth_type s.auth_timeout h.auth_timeout).to k41 in
+      let fresh = (means_41 q.uptime (token_time q) q.handle (token_challenge q) s.auth_type h.auth_type s.auth_timeout h.auth_timeout).to k41 in
       record {
         purpose = (means_31 p s.purpose h.purpose).to k31;
         algorithm = algorithm;
@@ -89,7 +90,7 @@ module _ (s h : Rules) (q : Request) where
         origination = expiry_signing p q.clock q.floor s.active h.active s.origination h.origination s.usage h.usage k38;
         usage = expiry_deciphering p q.clock q.floor s.active h.active s.origination h.origination s.usage h.usage k38;
         auth = (means_39 s.no_auth h.no_auth s.auth_type h.auth_type).to k39;
-        token = (means_40 q.token.there q.token.kinds s.auth_type h.auth_type).to k40;
+        token = (means_40 (token_there q) (token_kinds q) s.auth_type h.auth_type).to k40;
         recent = λ x. ((λ n e. ((fresh x).0 (inl (n, e))).0 n e), (λ n e. ((fresh x).0 (inr (n, e))).1 n e));
         bound = λ x. (fresh x).1;
         unlocked = (means_forbids s.unlocked h.unlocked q.locked).to k42;
@@ -124,8 +125,8 @@ module _ (s h : Rules) (q : Request) where
       (clear ((means_37 q.clock s.active h.active).from w.active)
       (clear (expiry-clear p q.clock q.floor s.active h.active s.origination h.origination s.usage h.usage side w.origination w.usage)
       (clear ((means_39 s.no_auth h.no_auth s.auth_type h.auth_type).from w.auth)
-      (clear ((means_40 q.token.there q.token.kinds s.auth_type h.auth_type).from w.token)
-      (clear ((means_41 q.uptime q.token.time q.handle q.token.challenge s.auth_type h.auth_type s.auth_timeout h.auth_timeout).from (λ x. ((λ y. w.recent x), w.bound x)))
+      (clear ((means_40 (token_there q) (token_kinds q) s.auth_type h.auth_type).from w.token)
+      (clear ((means_41 q.uptime (token_time q) q.handle (token_challenge q) s.auth_type h.auth_type s.auth_timeout h.auth_timeout).from (λ x. ((λ y. w.recent x), w.bound x)))
       (clear ((means_forbids s.unlocked h.unlocked q.locked).from w.unlocked)
       (clear ((means_wants s.presence h.presence q.present).from w.presence)
       (clear ((means_wants s.confirmation h.confirmation q.confirmed).from w.confirmation)

@@ -19,7 +19,9 @@ use Rattle.records.proofs.Fields.{row-value}
 use Rattle.checks.specs.Tags.{there}
 use Rattle.ruling.specs.Rules.{number_in, set_in, said_fields, Rules, rules_of}
 use Rattle.ruling.specs.Ruling.{held_tags}
-use Rattle.checks.specs.Code.{given}
+use Rattle.std.specs.Bool.{then_some}
+use Rattle.std.specs.Prelude as code
+use Rattle.checks.specs.Code.{given, seen}
 use Rattle.ruling.specs.Statements.{TagsNumbered}
 use Rattle.checks.proofs.Tags.{there-given}
 
@@ -39,6 +41,12 @@ there_in : {O : Type 0} (b : Bool) (v : ValueWith O) → there (pick b (some v) 
 unfolding there pick
 there_in true v = refl
 there_in false v = refl
+
+-- .. and the code's, by a flag
+pub taken : {T A : Type 0} (f : T → A) (b : Bool) (x : T) (o : code.Option T) → o ≡ then_some b x → seen f o ≡ given b (f x)
+unfolding given
+taken f true x o e = rw e refl
+taken f false x o e = rw e refl
 
 -- ---- every tag, by its row
 

@@ -5,6 +5,7 @@ use Rattle.std.proofs.Math.Option.{Option, some}
 use Rattle.std.specs.Int.Bits.{bit_and}
 use Rattle.ruling.specs.Rules.{Rules}
 use Rattle.checks.specs.Checks.{digest_bytes, key_bytes}
+use Rattle.ruling.specs.Token.{token_challenge, token_kinds, token_there, token_time}
 use Rattle.ruling.specs.declared.request.Request.{Request}
 
 -- one of the two lists holds the tag
@@ -74,10 +75,10 @@ pub record Allowed (s h : Rules) (q : Request) : Type 0 where
   -- 39
   pub auth : Either s.no_auth h.no_auth ⊎ Held s.auth_type h.auth_type
   -- 40
-  pub token : EachHeld s.auth_type h.auth_type (λ wanted. (q.token.there ≡ true) × (bit_and q.token.kinds wanted ≡ 0 → ⊥))
+  pub token : EachHeld s.auth_type h.auth_type (λ wanted. (token_there q ≡ true) × (bit_and (token_kinds q) wanted ≡ 0 → ⊥))
   -- 41
-  pub recent : Held s.auth_type h.auth_type → EachHeld s.auth_timeout h.auth_timeout (Recent q.uptime q.token.time)
-  pub bound : Held s.auth_type h.auth_type → (Held s.auth_timeout h.auth_timeout → ⊥) → q.token.challenge ≡ q.handle
+  pub recent : Held s.auth_type h.auth_type → EachHeld s.auth_timeout h.auth_timeout (Recent q.uptime (token_time q))
+  pub bound : Held s.auth_type h.auth_type → (Held s.auth_timeout h.auth_timeout → ⊥) → token_challenge q ≡ q.handle
   -- 42 to 46
   pub unlocked : Either s.unlocked h.unlocked → q.locked ≡ false
   pub presence : Either s.presence h.presence → q.present ≡ true

@@ -1,14 +1,17 @@
 -- What the code's values stand for: a list's rules, and an answer, which is a permit or document 01's number and place.
-use Rattle.answer.specs.Answer.{Answer, got, refused}
+use Rattle.std.specs.Prelude.{ℕ, Result, Ok, Err}
+use Rattle.answer.specs.Answer.{Answer, answer_of}
+use Rattle.answer.specs.Refusal.{number_of}
+use Rattle.answer.specs.declared.Refusal.{Refusal}
+use Rattle.answer.specs.declared.Refused.{Refused}
 use Rattle.checks.specs.Code.{of_number_tag, of_set_tag}
 use Rattle.ruling.specs.Rules.{Rules}
 use Rattle.ruling.specs.Ruling.{Permit}
-use Rattle.ruling.specs.declared.Ruling.{Ruling}
-use Rattle.ruling.specs.declared.Ruling.TheVariants as variant
-use Rattle.ruling.specs.declared.rules.Rules as code
+use Rattle.ruling.specs.declared.Permit as code
+use Rattle.ruling.specs.declared.rules.Rules as rules
 
 -- a list's rules, tag by tag
-abbrev pub of_rules : code.Rules → Rules
+abbrev pub of_rules : rules.Rules → Rules
 of_rules r = record {
   purpose = of_set_tag r.purpose;
   algorithm = of_number_tag r.algorithm;
@@ -28,7 +31,15 @@ of_rules r = record {
   no_auth = r.no_auth;
 }
 
--- a permit's marks and counts, or a refusal
-abbrev pub of_ruling : Ruling → Answer Permit
-of_ruling (variant.Permit hardware hardware_bits software software_bits) = got (record { hardware = hardware; hardware_bits = hardware_bits; software = software; software_bits = software_bits })
-of_ruling (variant.Refused number place) = refused number place
+-- a permit's marks and counts
+abbrev pub of_permit : code.Permit → Permit
+of_permit p = record { hardware = p.hardware; hardware_bits = p.hardware_bits; software = p.software; software_bits = p.software_bits }
+
+-- .. or a refusal
+abbrev pub of_ruling : Result code.Permit Refused → Answer Permit
+of_ruling a = answer_of of_permit a
+
+-- the number of a refusal; 0 where there is none
+abbrev pub number_or_zero : Result (Unit {0}) Refusal → ℕ
+number_or_zero (Ok x) = 0
+number_or_zero (Err r) = number_of r

@@ -1,3 +1,4 @@
+pub mod Token
 pub mod Rules
 pub mod Ruling
 pub mod Code

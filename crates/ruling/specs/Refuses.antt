@@ -8,6 +8,7 @@ use Rattle.answer.specs.Sentences.{SaysFirst}
 use Rattle.ruling.specs.Rules.{Rules}
 use Rattle.checks.specs.Checks.{digest_bytes, key_bytes}
 use Rattle.ruling.specs.Allowed.{Held, EachHeld, InSets, Either, Shape, Signing, Deciphering}
+use Rattle.ruling.specs.Token.{token_challenge, token_kinds, token_there, token_time}
 use Rattle.ruling.specs.declared.request.Request.{Request}
 
 -- one of the two lists holds the tag, with such a value
@@ -74,14 +75,14 @@ sentences s h q =
     -- "neither 503 nor 504 is present"
     ∷ (39, (Either s.no_auth h.no_auth ⊎ Held s.auth_type h.auth_type → ⊥))
     -- "504 present and no token, or the token's type shares no bit with it"
-    ∷ (40, InOne s.auth_type h.auth_type (λ wanted. (q.token.there ≡ false) ⊎ (bit_and q.token.kinds wanted ≡ 0)))
+    ∷ (40, InOne s.auth_type h.auth_type (λ wanted. (token_there q ≡ false) ⊎ (bit_and (token_kinds q) wanted ≡ 0)))
     -- "504 present; with 505, token time after uptime or uptime - token time > 1000 times it; without 505, challenge differs
     -- from the handle"
     ∷ (
       41,
       Held s.auth_type h.auth_type
-          × (InOne s.auth_timeout h.auth_timeout (λ seconds. (q.uptime < q.token.time) ⊎ (1000 * seconds < q.uptime - q.token.time))
-          ⊎ ((Held s.auth_timeout h.auth_timeout → ⊥) × (q.token.challenge ≡ q.handle → ⊥))),
+          × (InOne s.auth_timeout h.auth_timeout (λ seconds. (q.uptime < token_time q) ⊎ (1000 * seconds < q.uptime - token_time q))
+          ⊎ ((Held s.auth_timeout h.auth_timeout → ⊥) × (token_challenge q ≡ q.handle → ⊥))),
     )
     -- "509 and locked"
     ∷ (42, Either s.unlocked h.unlocked × (q.locked ≡ true))

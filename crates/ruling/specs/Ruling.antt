@@ -9,6 +9,7 @@ use Rattle.records.specs.declared.Record.{Record}
 use Rattle.checks.specs.Tags.{there, either}
 use Rattle.ruling.specs.Rules.{Rules, said_fields, rules_of}
 use Rattle.checks.specs.Checks.{known_purpose, purpose_refused, agreed, algorithm_fits, looks_at_padding, padding_refused, looks_at_digest, digest_refused, looks_at_key_size, key_size_refused, signs, expiry, clock_refused, active_refused, expiry_refused, auth_missing, token_refused, fresh_refused, null_refused, uses_refused}
+use Rattle.ruling.specs.Token.{token_challenge, token_kinds, token_there, token_time}
 use Rattle.ruling.specs.declared.request.Request.{Request}
 
 -- a refusal's number, and whether it refuses
@@ -43,8 +44,8 @@ date_checks s h q =
 unfoldable pub token_checks : Rules → Rules → Request → List Check
 token_checks s h q =
     (no_auth_rule, auth_missing s.no_auth h.no_auth s.auth_type h.auth_type)
-    ∷ (token_unfit, token_refused q.token.there q.token.kinds s.auth_type h.auth_type)
-    ∷ (token_not_fresh, fresh_refused q.uptime q.token.time q.handle q.token.challenge s.auth_type h.auth_type s.auth_timeout h.auth_timeout)
+    ∷ (token_unfit, token_refused (token_there q) (token_kinds q) s.auth_type h.auth_type)
+    ∷ (token_not_fresh, fresh_refused q.uptime (token_time q) q.handle (token_challenge q) s.auth_type h.auth_type s.auth_timeout h.auth_timeout)
     ∷ []
 
 -- 42 to 46

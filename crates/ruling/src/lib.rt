@@ -10,58 +10,56 @@ ghost use Rattle.std.specs.Prelude.{◌≡◌};
 ghost use Rattle.ruling.specs.Ruling.{ruled, ruling, looked_at};
 ghost use Rattle.ruling.specs.Code.{of_rules, of_ruling};
 
-use answer::ILL_SHAPED;
+use answer::{Refusal, Refused};
 use records::Record;
 use request::Request;
-use rules::Rules;
+use rules::Lists;
 
-// A permit with its marks and how many bits are set in each; or a refusal with its place, which is 0.
-#[derive(Clone, Copy)]
-pub enum Ruling {
-    Permit {
-        hardware: u16,
-        hardware_bits: u32,
-        software: u16,
-        software_bits: u32,
-    },
-    Refused(u8, usize),
+// A permit's marks and how many bits are set in each.
+#[derive(Clone, Copy, Debug, PartialEq, Eq)]
+pub struct Permit {
+    pub hardware: u16,
+    pub hardware_bits: u32,
+    pub software: u16,
+    pub software_bits: u32,
 }
 
 // Which of the sixteen tags are looked at.
-fn looked_at(s: Rules, h: Rules, q: Request) -> [bool; 16]
-    ensures { result ≡ looked_at (of_rules s) (of_rules h) q }
+#[tactic(auto, using(checks::proofs::Tags::known))]
+fn looked_at(lists: &Lists, q: Request) -> [bool; 16]
+    ensures { result ≡ looked_at (of_rules lists.now.software) (of_rules lists.now.hardware) q }
 {
+    let s = &lists.software;
+    let h = &lists.hardware;
+    let auth = s.auth_type.is_some() | h.auth_type.is_some();
     let algorithm = checks::agreed(s.algorithm, h.algorithm);
-    marks::looked(
-        q.purpose,
-        algorithm,
-        q.padding,
-        s.auth_type.there | h.auth_type.there,
-    )
+    marks::looked(q.purpose, algorithm, q.padding, auth)
 }
 
 // The ruling by the rules of both lists: the first refusal, or a permit with its marks.
-fn ruled(level: u32, keymint_level: u32, s: Rules, h: Rules, q: Request) -> Ruling
-    ensures { of_ruling result ≡ ruled level keymint_level (of_rules s) (of_rules h) q }
+fn ruled(level: u32, keymint_level: u32, lists: &Lists, q: Request) -> Result<Permit, Refused>
+    ensures { of_ruling result ≡ ruled level keymint_level (of_rules lists.now.software) (of_rules lists.now.hardware) q }
 {
-    let number = order::first_refusal(s, h, q);
-    if number != 0 {
-        return Ruling::Refused(number, 0);
+    if let Err(refusal) = order::first_refusal(lists, q) {
+        return Err(Refused(refusal, 0));
     }
-    let asked = looked_at(s, h, q);
-    let hardware = marks::mark_of(marks::held_tags(h), asked);
-    let software = marks::mark_of(marks::held_tags(s), asked);
-    marks::permit(level, keymint_level, hardware, software)
+    let asked = looked_at(lists, q);
+    let hardware = marks::mark_of(marks::held_tags(&lists.hardware), asked);
+    let software = marks::mark_of(marks::held_tags(&lists.software), asked);
+    Ok(marks::permit(level, keymint_level, hardware, software))
 }
 
-// Whether, and by which rules, a key of this record may be put to this use; a record that is not well-shaped gives 20.
-pub fn rule(r: Record, q: Request) -> Ruling
+// Whether, and by which rules, a key of this record may be put to this use; a record that is not well-shaped gives 20. A
+// refusal's place is 0.
+pub fn rule(r: Record, q: Request) -> Result<Permit, Refused>
     ensures { of_ruling result ≡ ruling r q }
 {
     if !shape::well_shaped(r) {
-        return Ruling::Refused(ILL_SHAPED, 0);
+        return Err(Refused(Refusal::IllShaped, 0));
     }
-    let software = rules::rules_of(r.software);
-    let hardware = rules::rules_of(r.hardware);
-    ruled(r.attestation.level, r.keymint.level, software, hardware, q)
+    let lists = Lists {
+        software: rules::rules_of(&r.software),
+        hardware: rules::rules_of(&r.hardware),
+    };
+    ruled(r.attestation.level, r.keymint.level, &lists, q)
 }

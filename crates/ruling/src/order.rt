@@ -1,130 +1,131 @@
-// The checks in document 01's order. Each function answers the number of the first of its checks that refuses, or 0.
+// The checks in document 01's order. Each function answers the first of its checks that refuses, if one does.
 ghost use Rattle.std.specs.Prelude.{◌≡◌};
 ghost use Rattle.ruling.specs.Ruling.{first_refusing, shape_checks, date_checks, token_checks, device_checks, checks};
-ghost use Rattle.ruling.specs.Code.{of_rules};
+ghost use Rattle.ruling.specs.Code.{of_rules, number_or_zero};
 
 use crate::request::Request;
-use crate::rules::Rules;
-use answer::{
-    ALGORITHM_UNFIT, CLOCK_BELOW_FLOOR, DEVICE_LOCKED, DIGEST_NOT_ALLOWED, EARLY_BOOT_OVER,
-    EXPIRED, KEY_TOO_SMALL, NO_AUTH_RULE, NOT_CONFIRMED, NOT_YET_ACTIVE, PADDING_NOT_ALLOWED,
-    PURPOSE_NOT_ALLOWED, PURPOSE_UNKNOWN, TOKEN_NOT_FRESH, TOKEN_UNFIT, USED_UP, USER_NOT_PRESENT,
-};
+use crate::rules::Lists;
+use answer::Refusal;
 
 // 30 to 35: what the use is, and with which algorithm, padding, digest and key size.
-fn shape_refusal(s: Rules, h: Rules, q: Request) -> u8
-    ensures { result ≡ first_refusing (shape_checks (of_rules s) (of_rules h) q) }
+#[tactic(auto, using(crate::proofs::First::unfit), unfolding(crate::specs::Ruling::shape_checks, crate::specs::Ruling::first_refusing, answer::specs::Answer::pick, checks::specs::Code::or_zero))]
+fn shape_refusal(lists: &Lists, q: Request) -> Result<(), Refusal>
+    ensures { number_or_zero result ≡ first_refusing (shape_checks (of_rules lists.now.software) (of_rules lists.now.hardware) q) }
 {
+    let s = &lists.software;
+    let h = &lists.hardware;
     let p = q.purpose;
     if !checks::known_purpose(p) {
-        return PURPOSE_UNKNOWN;
+        return Err(Refusal::PurposeUnknown);
     }
     if checks::purpose_refused(p, s.purpose, h.purpose) {
-        return PURPOSE_NOT_ALLOWED;
+        return Err(Refusal::PurposeNotAllowed);
     }
-    let a = checks::agreed(s.algorithm, h.algorithm);
+    let a = checks::agreed(s.algorithm, h.algorithm).ok_or(Refusal::AlgorithmUnfit)?;
     if !checks::algorithm_fits(p, a) {
-        return ALGORITHM_UNFIT;
+        return Err(Refusal::AlgorithmUnfit);
     }
     let m = q.padding;
     if checks::padding_refused(p, a, m, s.padding, h.padding) {
-        return PADDING_NOT_ALLOWED;
+        return Err(Refusal::PaddingNotAllowed);
     }
     let d = q.digest;
     if checks::digest_refused(p, a, m, d, s.digest, h.digest) {
-        return DIGEST_NOT_ALLOWED;
+        return Err(Refusal::DigestNotAllowed);
     }
     if checks::key_size_refused(p, a, m, d, s.key_size, h.key_size) {
-        return KEY_TOO_SMALL;
+        return Err(Refusal::KeyTooSmall);
     }
-    0
+    Ok(())
 }
 
 // 36 to 38: 400, and the expiry date that applies.
-fn date_refusal(s: Rules, h: Rules, q: Request) -> u8
-    ensures { result ≡ first_refusing (date_checks (of_rules s) (of_rules h) q) }
+#[tactic(auto, unfolding(crate::specs::Ruling::date_checks, crate::specs::Ruling::first_refusing, answer::specs::Answer::pick))]
+fn date_refusal(lists: &Lists, q: Request) -> Result<(), Refusal>
+    ensures { number_or_zero result ≡ first_refusing (date_checks (of_rules lists.now.software) (of_rules lists.now.hardware) q) }
 {
+    let s = &lists.software;
+    let h = &lists.hardware;
     let p = q.purpose;
     let clock = q.clock;
     let se = checks::expiry(p, s.origination, s.usage);
     let he = checks::expiry(p, h.origination, h.usage);
     if checks::clock_refused(clock, q.floor, s.active, h.active, se, he) {
-        return CLOCK_BELOW_FLOOR;
+        return Err(Refusal::ClockBelowFloor);
     }
     if checks::active_refused(clock, s.active, h.active) {
-        return NOT_YET_ACTIVE;
+        return Err(Refusal::NotYetActive);
     }
     if checks::expiry_refused(clock, se, he) {
-        return EXPIRED;
+        return Err(Refusal::Expired);
     }
-    0
+    Ok(())
 }
 
 // 39 to 41: 503, 504 and 505, and the token.
-fn token_refusal(s: Rules, h: Rules, q: Request) -> u8
-    ensures { result ≡ first_refusing (token_checks (of_rules s) (of_rules h) q) }
+#[tactic(auto, unfolding(crate::specs::Ruling::token_checks, crate::specs::Ruling::first_refusing, answer::specs::Answer::pick))]
+fn token_refusal(lists: &Lists, q: Request) -> Result<(), Refusal>
+    ensures { number_or_zero result ≡ first_refusing (token_checks (of_rules lists.now.software) (of_rules lists.now.hardware) q) }
 {
-    let token = q.token;
+    let s = &lists.software;
+    let h = &lists.hardware;
     let sn = s.no_auth;
     let hn = h.no_auth;
     if checks::auth_missing(sn, hn, s.auth_type, h.auth_type) {
-        return NO_AUTH_RULE;
+        return Err(Refusal::NoAuthRule);
     }
-    if checks::token_refused(token.there, token.kinds, s.auth_type, h.auth_type) {
-        return TOKEN_UNFIT;
+    let kinds = q.token.map(|token| token.kinds);
+    if checks::token_refused(kinds, s.auth_type, h.auth_type) {
+        return Err(Refusal::TokenUnfit);
     }
-    if checks::fresh_refused(
-        q.uptime,
-        token.time,
-        q.handle,
-        token.challenge,
-        s.auth_type,
-        h.auth_type,
-        s.auth_timeout,
-        h.auth_timeout,
-    ) {
-        return TOKEN_NOT_FRESH;
+    // Without a token there is no 504 here.
+    match q.token {
+        Some(token)
+            if checks::fresh_refused(
+                q.uptime,
+                token.time,
+                q.handle,
+                token.challenge,
+                s.auth_type,
+                h.auth_type,
+                s.auth_timeout,
+                h.auth_timeout,
+            ) => { Err(Refusal::TokenNotFresh) }
+        _ => Ok(()),
     }
-    0
 }
 
 // 42 to 46: what the device and its user are at, and the uses so far.
-fn device_refusal(s: Rules, h: Rules, q: Request) -> u8
-    ensures { result ≡ first_refusing (device_checks (of_rules s) (of_rules h) q) }
+#[tactic(auto, unfolding(crate::specs::Ruling::device_checks, crate::specs::Ruling::first_refusing, answer::specs::Answer::pick))]
+fn device_refusal(lists: &Lists, q: Request) -> Result<(), Refusal>
+    ensures { number_or_zero result ≡ first_refusing (device_checks (of_rules lists.now.software) (of_rules lists.now.hardware) q) }
 {
+    let s = &lists.software;
+    let h = &lists.hardware;
     if checks::null_refused(s.unlocked, h.unlocked, q.locked) {
-        return DEVICE_LOCKED;
+        return Err(Refusal::DeviceLocked);
     }
     if checks::null_refused(s.presence, h.presence, !q.present) {
-        return USER_NOT_PRESENT;
+        return Err(Refusal::UserNotPresent);
     }
     if checks::null_refused(s.confirmation, h.confirmation, !q.confirmed) {
-        return NOT_CONFIRMED;
+        return Err(Refusal::NotConfirmed);
     }
     if checks::null_refused(s.early_boot, h.early_boot, q.early_boot_over) {
-        return EARLY_BOOT_OVER;
+        return Err(Refusal::EarlyBootOver);
     }
     if checks::uses_refused(q.uses, s.use_limit, h.use_limit) {
-        return USED_UP;
+        return Err(Refusal::UsedUp);
     }
-    0
+    Ok(())
 }
 
 // 30 to 46.
-pub(crate) fn first_refusal(s: Rules, h: Rules, q: Request) -> u8
-    ensures { result ≡ first_refusing (checks (of_rules s) (of_rules h) q) }
+pub(crate) fn first_refusal(lists: &Lists, q: Request) -> Result<(), Refusal>
+    ensures { number_or_zero result ≡ first_refusing (checks (of_rules lists.now.software) (of_rules lists.now.hardware) q) }
 {
-    let shape = shape_refusal(s, h, q);
-    if shape != 0 {
-        return shape;
-    }
-    let date = date_refusal(s, h, q);
-    if date != 0 {
-        return date;
-    }
-    let token = token_refusal(s, h, q);
-    if token != 0 {
-        return token;
-    }
-    device_refusal(s, h, q)
+    shape_refusal(lists, q)?;
+    date_refusal(lists, q)?;
+    token_refusal(lists, q)?;
+    device_refusal(lists, q)
 }

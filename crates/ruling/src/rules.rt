@@ -1,38 +1,42 @@
 // The tags of a list that a use is ruled by, each there or not. A tag that is not there says nothing.
 ghost use Rattle.std.specs.Prelude.{◌≡◌, false, ◌<◌, get_or};
 ghost use Rattle.schema.specs.Table.{row_count};
-ghost use Rattle.records.specs.Content.{members_of};
 ghost use Rattle.ruling.specs.Rules.{said_fields, rules_of};
-ghost use Rattle.checks.specs.Code.{given, of_number_tag, of_set_tag};
+ghost use Rattle.checks.specs.Code.{given, of_number_tag};
 ghost use Rattle.ruling.specs.Code.{of_rules};
 
-use checks::{NumberTag, SetTag};
 use records::{FieldList, NumberSet};
-use schema::ROWS;
 
 // A NULL tag is just there or not.
 #[derive(Clone, Copy)]
 pub(crate) struct Rules {
-    pub(crate) purpose: SetTag,
-    pub(crate) algorithm: NumberTag,
-    pub(crate) padding: SetTag,
-    pub(crate) digest: SetTag,
-    pub(crate) key_size: NumberTag,
+    pub(crate) purpose: Option<NumberSet>,
+    pub(crate) algorithm: Option<u64>,
+    pub(crate) padding: Option<NumberSet>,
+    pub(crate) digest: Option<NumberSet>,
+    pub(crate) key_size: Option<u64>,
     // 400, 401 and 402
-    pub(crate) active: NumberTag,
-    pub(crate) origination: NumberTag,
-    pub(crate) usage: NumberTag,
+    pub(crate) active: Option<u64>,
+    pub(crate) origination: Option<u64>,
+    pub(crate) usage: Option<u64>,
     // 504 and 505
-    pub(crate) auth_type: NumberTag,
-    pub(crate) auth_timeout: NumberTag,
+    pub(crate) auth_type: Option<u64>,
+    pub(crate) auth_timeout: Option<u64>,
     // 509, 507, 508 and 305
     pub(crate) unlocked: bool,
     pub(crate) presence: bool,
     pub(crate) confirmation: bool,
     pub(crate) early_boot: bool,
     // 405 and 503
-    pub(crate) use_limit: NumberTag,
+    pub(crate) use_limit: Option<u64>,
     pub(crate) no_auth: bool,
+}
+
+// What both lists of a record say.
+#[derive(Clone, Copy)]
+pub(crate) struct Lists {
+    pub(crate) software: Rules,
+    pub(crate) hardware: Rules,
 }
 
 // The rows of these tags in the schema's table, with the fields' numbers.
@@ -68,44 +72,33 @@ const ROW_CONFIRMATION: usize = 19; // 508
 
 const ROW_UNLOCKED: usize = 20; // 509
 
-fn number_at(present: [bool; ROWS], values: [u64; ROWS], row: usize) -> NumberTag
+fn number_at(l: &FieldList, row: usize) -> Option<u64>
     requires { row < row_count }
-    ensures { of_number_tag result ≡ given (get_or present row false) (get_or values row 0) }
+    ensures { of_number_tag result ≡ given (get_or l.now.present row false) (get_or l.now.values row 0) }
 {
-    NumberTag {
-        there: present[row],
-        value: values[row],
-    }
-}
-
-fn set_tag(there: bool, set: NumberSet) -> SetTag
-    ensures { of_set_tag result ≡ given there (members_of set) }
-{
-    SetTag { there, set }
+    l.present[row].then_some(l.values[row])
 }
 
 // What the list says under each of the sixteen numbers.
-pub(crate) fn rules_of(l: FieldList) -> Rules
-    ensures { of_rules result ≡ rules_of (said_fields l) }
+pub(crate) fn rules_of(l: &FieldList) -> Rules
+    ensures { of_rules result ≡ rules_of (said_fields l.now) }
 {
-    let present = l.present;
-    let values = l.values;
     Rules {
-        purpose: set_tag(present[ROW_PURPOSE], l.purpose),
-        algorithm: number_at(present, values, ROW_ALGORITHM),
-        padding: set_tag(present[ROW_PADDING], l.padding),
-        digest: set_tag(present[ROW_DIGEST], l.digest),
-        key_size: number_at(present, values, ROW_KEY_SIZE),
-        active: number_at(present, values, ROW_ACTIVE),
-        origination: number_at(present, values, ROW_ORIGINATION),
-        usage: number_at(present, values, ROW_USAGE),
-        auth_type: number_at(present, values, ROW_AUTH_TYPE),
-        auth_timeout: number_at(present, values, ROW_AUTH_TIMEOUT),
-        unlocked: present[ROW_UNLOCKED],
-        presence: present[ROW_PRESENCE],
-        confirmation: present[ROW_CONFIRMATION],
-        early_boot: present[ROW_EARLY_BOOT],
-        use_limit: number_at(present, values, ROW_USE_LIMIT),
-        no_auth: present[ROW_NO_AUTH],
+        purpose: l.present[ROW_PURPOSE].then_some(l.purpose),
+        algorithm: number_at(l, ROW_ALGORITHM),
+        padding: l.present[ROW_PADDING].then_some(l.padding),
+        digest: l.present[ROW_DIGEST].then_some(l.digest),
+        key_size: number_at(l, ROW_KEY_SIZE),
+        active: number_at(l, ROW_ACTIVE),
+        origination: number_at(l, ROW_ORIGINATION),
+        usage: number_at(l, ROW_USAGE),
+        auth_type: number_at(l, ROW_AUTH_TYPE),
+        auth_timeout: number_at(l, ROW_AUTH_TIMEOUT),
+        unlocked: l.present[ROW_UNLOCKED],
+        presence: l.present[ROW_PRESENCE],
+        confirmation: l.present[ROW_CONFIRMATION],
+        early_boot: l.present[ROW_EARLY_BOOT],
+        use_limit: number_at(l, ROW_USE_LIMIT),
+        no_auth: l.present[ROW_NO_AUTH],
     }
 }

@@ -2,8 +2,9 @@
 use Rattle.ruling.proofs.Answers.{ruled-refused, ruled-permitted}
 use Rattle.ruling.proofs.ruled.Goals as goal
 
-pub returns-then-number-ne0 : goal.returns-then-number-ne0
-returns-then-number-ne0 c = ruled-refused _ _ _ _ _ _ c.first_refusal-number.ensures c.if-number-ne0.true
+pub returns-in-Err : goal.returns-in-Err
+returns-in-Err c = ruled-refused _ _ _ _ _ c.first_refusal.result c.first_refusal.ensures _ c.in-Err.is
 
 pub returns : goal.returns
-returns c = ruled-permitted _ _ _ _ _ _ c.first_refusal-number.ensures c.if-number-ne0.false _ _ _ c.looked_at-asked.ensures c.held_tags.ensures c.held_tags-2.ensures _ _ c.mark_of-hardware.ensures c.mark_of-software.ensures _ c.permit.ensures
+returns c =
+    ruled-permitted _ _ _ _ _ c.first_refusal.result c.first_refusal.ensures c.in_default.is _ _ _ c.looked_at-asked.ensures c.held_tags.ensures c.held_tags-2.ensures _ _ c.mark_of-hardware.ensures c.mark_of-software.ensures _ c.permit.ensures

@@ -7,6 +7,3 @@ use Rattle.ruling.proofs.marks.mark_of.Given as goal
 
 abbrev pub invariant-loop-i : goal.invariant-loop-i
 invariant-loop-i l = (length l.tags ≡ 16) × (length l.asked ≡ 16) × (l.i ≤ 16) × (l.mark ≡ mark_of (drop l.i l.tags) (drop l.i l.asked))
-
-abbrev pub decreases-loop-i : goal.decreases-loop-i
-decreases-loop-i l = l.i
