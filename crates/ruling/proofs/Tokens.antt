@@ -1,6 +1,6 @@
 -- The token: what the code takes of it is what is defined; and where there is none, and 40 lets that pass, no list has 504.
 -- Assumes nothing.
-use mathlib.Core.Path.{◌≡◌, refl, sym, ◌∙◌}
+use mathlib.Core.Path.{◌≡◌, refl, ◌∙◌}
 use mathlib.Core.Bool.{Bool, false, true≢false}
 use mathlib.Core.Option.{Option, none, some}
 use Prim.Native.Nat.{ℕ}
@@ -32,19 +32,22 @@ module _ (q : Request) (s h : Option ℕ) (b : Bool) where
   pub token_found : (r : code.Option ℕ) → r ≡ option_map (λ t. t.kinds) q.token → b ≡ token_refused (is_some r) (or_zero (of_number_tag r)) s h → b ≡ token_refused (token_there q) (token_kinds q) s h
   token_found r e f = f ∙ rw (e, there-taken q.token, kinds-said q.token) refl
 
-  module _ (st ht : Option ℕ) where
-    pub fresh_found : (t : Token) → q.token ≡ Some t → b ≡ fresh_refused q.uptime t.time q.handle t.challenge s h st ht → b ≡ fresh_refused q.uptime (token_time q) q.handle (token_challenge q) s h st ht
-    unfolding of_token
-    fresh_found t e f = f ∙ rw e refl
-
-pub not_asked : (q : Request) (s h st ht : Option ℕ) (b : Bool) → q.token ≡ None → b ≡ token_refused (token_there q) (token_kinds q) s h → b ≡ false
+not_asked : (q : Request) (s h st ht : Option ℕ) → q.token ≡ None → token_refused (token_there q) (token_kinds q) s h ≡ false
     → false ≡ fresh_refused q.uptime (token_time q) q.handle (token_challenge q) s h st ht
 unfolding token_refused fresh_refused allows there of_token
-not_asked q s h st ht b e f g =
-    let n : token_refused (token_there q) (token_kinds q) s h ≡ false = sym f ∙ g in
-    rw e (go s h (rw e at n))
+not_asked q s h st ht e n = rw e (go s h (rw e at n))
   where
     go : (s h : Option ℕ) → token_refused false 0 s h ≡ false → false ≡ fresh_refused q.uptime 0 q.handle 0 s h st ht
     go none none p = refl
     go none (some y) p = absurd (true≢false p)
     go (some x) h p = absurd (true≢false p)
+
+pub fresh_found : (q : Request) (s h st ht : Option ℕ) (r : Bool) → token_refused (token_there q) (token_kinds q) s h ≡ false
+    → (Gives : Token → Type 0) → MatchOption q.token (r ≡ false) Gives → ((t : Token) → Gives t → r ≡ fresh_refused q.uptime t.time q.handle t.challenge s h st ht)
+    → r ≡ fresh_refused q.uptime (token_time q) q.handle (token_challenge q) s h st ht
+unfolding of_token
+fresh_found q s h st ht r n Gives e m = go q.token refl e
+  where
+    go : (o : code.Option Token) → q.token ≡ o → MatchOption o (r ≡ false) Gives → r ≡ fresh_refused q.uptime (token_time q) q.handle (token_challenge q) s h st ht
+    go None i f = f ∙ not_asked q s h st ht i n
+    go (Some t) i f = m t f ∙ rw i refl

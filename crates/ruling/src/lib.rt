@@ -11,9 +11,9 @@ ghost use Rattle.ruling.specs.Ruling.{ruled, ruling, looked_at};
 ghost use Rattle.ruling.specs.Code.{of_rules, of_ruling};
 
 use answer::{Refusal, Refused};
+use order::Case;
 use records::Record;
 use request::Request;
-use rules::Lists;
 
 // A permit's marks and how many bits are set in each.
 #[derive(Clone, Copy, Debug, PartialEq, Eq)]
@@ -26,26 +26,27 @@ pub struct Permit {
 
 // Which of the sixteen tags are looked at.
 #[tactic(auto, using(checks::proofs::Tags::known))]
-fn looked_at(lists: &Lists, q: Request) -> [bool; 16]
-    ensures { result ≡ looked_at (of_rules lists.now.software) (of_rules lists.now.hardware) q }
+fn looked_at(case: &Case) -> [bool; 16]
+    ensures { result ≡ looked_at (of_rules case.now.software) (of_rules case.now.hardware) case.now.request }
 {
-    let s = &lists.software;
-    let h = &lists.hardware;
+    let s = &case.software;
+    let h = &case.hardware;
+    let q = &case.request;
     let auth = s.auth_type.is_some() | h.auth_type.is_some();
     let algorithm = checks::agreed(s.algorithm, h.algorithm);
     marks::looked(q.purpose, algorithm, q.padding, auth)
 }
 
 // The ruling by the rules of both lists: the first refusal, or a permit with its marks.
-fn ruled(level: u32, keymint_level: u32, lists: &Lists, q: Request) -> Result<Permit, Refused>
-    ensures { of_ruling result ≡ ruled level keymint_level (of_rules lists.now.software) (of_rules lists.now.hardware) q }
+fn ruled(level: u32, keymint_level: u32, case: &Case) -> Result<Permit, Refused>
+    ensures { of_ruling result ≡ ruled level keymint_level (of_rules case.now.software) (of_rules case.now.hardware) case.now.request }
 {
-    if let Err(refusal) = order::first_refusal(lists, q) {
+    if let Err(refusal) = case.first_refusal() {
         return Err(Refused(refusal, 0));
     }
-    let asked = looked_at(lists, q);
-    let hardware = marks::mark_of(marks::held_tags(&lists.hardware), asked);
-    let software = marks::mark_of(marks::held_tags(&lists.software), asked);
+    let asked = looked_at(case);
+    let hardware = marks::mark_of(marks::held_tags(&case.hardware), asked);
+    let software = marks::mark_of(marks::held_tags(&case.software), asked);
     Ok(marks::permit(level, keymint_level, hardware, software))
 }
 
@@ -57,9 +58,10 @@ pub fn rule(r: Record, q: Request) -> Result<Permit, Refused>
     if !shape::well_shaped(r) {
         return Err(Refused(Refusal::IllShaped, 0));
     }
-    let lists = Lists {
+    let case = Case {
         software: rules::rules_of(&r.software),
         hardware: rules::rules_of(&r.hardware),
+        request: q,
     };
-    ruled(r.attestation.level, r.keymint.level, &lists, q)
+    ruled(r.attestation.level, r.keymint.level, &case)
 }

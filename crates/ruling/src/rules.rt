@@ -32,13 +32,6 @@ pub(crate) struct Rules {
     pub(crate) no_auth: bool,
 }
 
-// What both lists of a record say.
-#[derive(Clone, Copy)]
-pub(crate) struct Lists {
-    pub(crate) software: Rules,
-    pub(crate) hardware: Rules,
-}
-
 // The rows of these tags in the schema's table, with the fields' numbers.
 const ROW_PURPOSE: usize = 0; // 1
 

@@ -1,10 +1,10 @@
--- `ruling::order::first_refusal` meets its contract: the first group that refuses. Assumes nothing.
+-- `ruling::order::Case::first_refusal` meets its contract: the first group that refuses. Assumes nothing.
 use mathlib.Core.Path.{◌≡◌, ap, ◌∙◌}
 use borrow.Author.Rules.{rules}
 use Rattle.std.specs.Prelude.{Err}
 use Rattle.ruling.specs.Code.{number_or_zero}
 use Rattle.ruling.proofs.First.{first-shape, first_date, first-token, first_device}
-use Rattle.ruling.proofs.order.first_refusal.Goals as goal
+use Rattle.ruling.proofs.order.Case.first_refusal.Goals as goal
 
 pub returns-in_err-shape_refusal : goal.returns-in_err-shape_refusal
 returns-in_err-shape_refusal c =
