@@ -1,6 +1,6 @@
 // Each check of the use ruling, over just the tags that it reads: s of the software list, h of the hardware list. One
 // that ends in `refused` or `missing` answers true where it refuses. Flags are joined by `&` and `|`, as there is nothing
-// to save by not asking.
+// to save by not asking. s and h are no struct: it would be made anew at each call, of the rules of two lists.
 #![tactic(auto)]
 
 ghost use Rattle.std.specs.Prelude.{◌≡◌, ◌+◌, ◌*◌, ◌≤◌, Bool, leb, is_some};
@@ -12,8 +12,8 @@ ghost use Rattle.checks.specs.Code.{of_tag, of_number_tag, of_set_tag, agreed_on
 
 use records::NumberSet;
 
-// Purposes. They and the algorithms stay numbers: a caller may ask of any (known_purpose, algorithm_fits), and an enum in
-// their place would ask more of callers.
+// Purposes. They, the algorithms, paddings and digests stay numbers: a caller may ask of any (known_purpose and
+// algorithm_fits answer for those that are none), and an enum in their place would ask more of callers.
 const DECRYPT: u64 = 1;
 
 const SIGN: u64 = 2;

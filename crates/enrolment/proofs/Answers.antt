@@ -4,8 +4,7 @@ use mathlib.Core.Path.{◌≡◌, refl, ap, ◌∙◌}
 use mathlib.Core.Bool.{Bool, true, false, not, ◌&&◌, ◌||◌}
 use mathlib.Core.Option.{none, some}
 use mathlib.Core.List.{List, [], ◌∷◌}
-use Prim.Native.Nat.{ℕ, ◌<◌, ◌≤◌}
-use native.Mathlib.Omega.{arith}
+use Prim.Native.Nat.{ℕ}
 use lib.ListN.{length, get_or}
 use lib.Dec.{eqb, lit<}
 use lib.Pointwise.{pointwise}
@@ -25,25 +24,14 @@ use Rattle.enrolment.specs.Enrolled.{same_octets, challenge_met, either_software
 
 -- ---- the challenge
 
-same_pointwise : (xs ys : List ℕ) → pointwise eqb xs ys ≡ same_octets xs ys
+pub same_pointwise : (xs ys : List ℕ) → pointwise eqb xs ys ≡ same_octets xs ys
 unfolding same_octets
 same_pointwise [] [] = refl
 same_pointwise [] (y ∷ ys) = refl
 same_pointwise (x ∷ xs) [] = refl
 same_pointwise (x ∷ xs) (y ∷ ys) = rw (same_pointwise xs ys) refl
 
-module _ (expected challenge : List ℕ) where
-  pub challenge-none : length expected < 1 → false ≡ challenge_met expected challenge
-  unfolding challenge_met
-  challenge-none h = rw (lt-leb 1 (length expected) h) refl
-
-  pub challenge-long : 128 < length expected → false ≡ challenge_met expected challenge
-  unfolding challenge_met
-  challenge-long h = rw (lt-leb (length expected) 128 h, le-leb 1 (length expected) (omega arith)) refl
-
-  pub challenge-same : 1 ≤ length expected → length expected ≤ 128 → (b : Bool) → b ≡ pointwise eqb expected challenge → b ≡ challenge_met expected challenge
-  unfolding challenge_met
-  challenge-same l h b e = rw (le-leb 1 (length expected) l, le-leb (length expected) 128 h) (e ∙ same_pointwise expected challenge)
+pub ruleset lengths = (le-leb, lt-leb, same_pointwise)
 
 -- ---- what the hardware list says, by its rows
 

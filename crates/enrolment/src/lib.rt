@@ -13,12 +13,16 @@ use records::{FieldList, Record};
 use shape::parts::parts_inside;
 use shape::well_shaped;
 
+// The bytes of a challenge, at most.
+const CHALLENGE_MAX: usize = 128;
+
 // 1 to 128 bytes, and the same as those attested.
+#[tactic(auto, using(crate::proofs::Answers::lengths), unfolding(crate::specs::Enrolled::challenge_met))]
 fn challenge_met(expected: &[u8], challenge: &[u8]) -> bool
     ensures { result ≡ challenge_met expected.now challenge.now }
 {
     match expected.len() {
-        1..=128 => expected == challenge,
+        1..=CHALLENGE_MAX => expected == challenge,
         _ => false,
     }
 }
@@ -28,11 +32,18 @@ const ROW_ORIGIN: usize = 24; // 702
 
 const ROW_ROOT_OF_TRUST: usize = 26; // 704
 
+// A security level, a boot state and an origin. They stay numbers, since a record may hold any (records::Record).
+const SOFTWARE: u32 = 0;
+
+const VERIFIED: u32 = 0;
+
+const GENERATED: u64 = 0;
+
 // Origin in the hardware list, and 0: the key was made in the device.
 fn generated(hardware: &FieldList) -> bool
     ensures { result ≡ generated (fields_of hardware.now place_at) }
 {
-    hardware.present[ROW_ORIGIN] & (hardware.values[ROW_ORIGIN] == 0)
+    hardware.present[ROW_ORIGIN] & (hardware.values[ROW_ORIGIN] == GENERATED)
 }
 
 // 50 to 55, in order. The software list is not asked for.
@@ -42,7 +53,7 @@ fn judge(level: u32, keymint_level: u32, hardware: &FieldList, met: bool) -> Res
     if !met {
         return Err(Refused(Refusal::ChallengeDiffers, 0));
     }
-    if (level == 0) | (keymint_level == 0) {
+    if (level == SOFTWARE) | (keymint_level == SOFTWARE) {
         return Err(Refused(Refusal::SoftwareLevel, 0));
     }
     if !hardware.present[ROW_ROOT_OF_TRUST] {
@@ -51,7 +62,7 @@ fn judge(level: u32, keymint_level: u32, hardware: &FieldList, met: bool) -> Res
     if !hardware.root.locked {
         return Err(Refused(Refusal::BootUnlocked, 0));
     }
-    if hardware.root.state != 0 {
+    if hardware.root.state != VERIFIED {
         return Err(Refused(Refusal::BootNotVerified, 0));
     }
     if !generated(hardware) {

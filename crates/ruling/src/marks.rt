@@ -55,7 +55,8 @@ fn joined(mark: u16, lower: bool) -> u16
     mark << 1 | lower as u16
 }
 
-// "A bit is set exactly when that list holds the tag and it was looked at".
+// "A bit is set exactly when that list holds the tag and it was looked at". Two arrays and not one of pairs, since
+// HardwareExactly and SoftwareExactly speak of each alone.
 pub(crate) fn mark_of(tags: [bool; 16], asked: [bool; 16]) -> u16
     ensures { result ≡ mark_of tags asked }
 {
@@ -79,12 +80,15 @@ fn counted(hardware: u16, software: u16) -> Permit
     }
 }
 
+// The security level Software. A level stays a number, since a record may hold any (records::Record).
+const SOFTWARE: u32 = 0;
+
 // "If either level is Software, the hardware bits join the software mark and the hardware mark is 0".
 #[tactic(auto, unfolding(crate::specs::Ruling::permit_of, answer::specs::Answer::pick))]
 pub(crate) fn permit(level: u32, keymint_level: u32, hardware: u16, software: u16) -> Permit
     ensures { of_permit result ≡ permit_of level keymint_level hardware software }
 {
-    if (level == 0) | (keymint_level == 0) {
+    if (level == SOFTWARE) | (keymint_level == SOFTWARE) {
         return counted(0, hardware | software);
     }
     counted(hardware, software)

@@ -14,8 +14,8 @@ returns-then-not-hardware c = search no_root
 pub returns-then-not-hardware-2 : goal.returns-then-not-hardware-2
 returns-then-not-hardware-2 c = search unlocked
 
-pub returns-then-hardware-ne0 : goal.returns-then-hardware-ne0
-returns-then-hardware-ne0 c = search not_verified
+pub returns-then-hardware-ne-VERIFIED : goal.returns-then-hardware-ne-VERIFIED
+returns-then-hardware-ne-VERIFIED c = search not_verified
 
 pub returns-then-not-generated : goal.returns-then-not-generated
 returns-then-not-generated c = search other_origin
