@@ -1,4 +1,4 @@
-pub mod Copies
+pub mod Made
 pub mod Fits
 pub mod Parts
 pub mod Puts

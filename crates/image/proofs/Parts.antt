@@ -17,10 +17,10 @@ module _ (w : List ℕ) where
   unfolding set_from
   set-made e = rw e refl
 
-  pub root-made : {key hash : Part} → key ≡ part_from w 0 → hash ≡ part_from w 5
-      → ◌≡◌ {A = RootOfTrust} (record { key = key; locked = is_set (get_or w 2 0); state = low (get_or w 3 0); hashed = is_set (get_or w 4 0); hash = hash }) (root_from_words w)
+  pub root-made : {key hash : Part} {state : ℕ} → key ≡ part_from w 0 → state ≡ low (get_or w 3 0) → hash ≡ part_from w 5
+      → ◌≡◌ {A = RootOfTrust} (record { key = key; locked = is_set (get_or w 2 0); state = state; hashed = is_set (get_or w 4 0); hash = hash }) (root_from_words w)
   unfolding root_from_words
-  root-made p q = rw (p, q) refl
+  root-made p s q = rw (p, s, q) refl
 
   pub list_made_lem : {present : List Bool} {values sizes : List ℕ} {purpose digest padding mgf : NumberSet} {root : RootOfTrust}
       → present ≡ map is_set (take 42 w) → values ≡ take 42 (drop 42 w) → sizes ≡ take 42 (drop 84 w)

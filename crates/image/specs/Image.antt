@@ -1,7 +1,8 @@
 -- include/sculldrip.h: "A record is an image of SCULLDRIP_IMAGE_WORDS words", 410 of them: 8, and 201 for each list.
-use Rattle.std.specs.Prelude.{◌≡◌, Bool, true, ◌&&◌, cond, List, [], ◌∷◌, ◌++◌, map, ℕ, ◌+◌, ◌%◌, length, get_or, take, drop, replicate, eqb, leb, ltb}
+use Rattle.std.specs.Prelude.{Bool, true, ◌&&◌, cond, List, [], ◌∷◌, ◌++◌, map, ℕ, ◌+◌, ◌%◌, length, get_or, take, drop, eqb, leb, ltb, Result, Ok, Err}
+use Rattle.answer.specs.declared.Refusal.{Refusal}
 use Rattle.answer.specs.Answer.{Answer, got, refused, guard, pick}
-use Rattle.answer.specs.Refusal.{ill_shaped, short_image}
+use Rattle.answer.specs.Refusal.{number_of, ill_shaped, short_image}
 use Rattle.codec.specs.Octets.{splice}
 use Rattle.schema.specs.Table.{top32, rows, index_of}
 use Rattle.records.specs.Rows.{all_below}
@@ -11,13 +12,16 @@ use Rattle.records.specs.declared.NumberSet.{NumberSet}
 use Rattle.records.specs.declared.RootOfTrust.{RootOfTrust}
 use Rattle.records.specs.declared.FieldList.{FieldList}
 use Rattle.records.specs.declared.Record.{Record}
-use Rattle.image.specs.declared.Imaged.{Imaged}
 
 -- ---- the words of a record
 
 -- a flag is 1 or 0
 abbrev pub flag_word : Bool → ℕ
 flag_word b = cond b 1 0
+
+-- a number is itself
+abbrev pub number_word : ℕ → ℕ
+number_word n = n
 
 -- "16 slots for members and .. how many of them are members"
 unfoldable pub set_words : NumberSet → List ℕ
@@ -120,6 +124,10 @@ record_of w = record {
 -- ---- "an absent field's words are never looked at, nor are slots past a count": of the words that are looked at, those of
 -- a version, a level, a member or a boot state hold 32 bits, and flags are 0 or 1
 
+-- word k is at most top
+abbrev pub at_most_at : ℕ → List ℕ → ℕ → Bool
+at_most_at top w k = leb (get_or w k 0) top
+
 -- word k holds 32 bits
 abbrev pub narrow_at : List ℕ → ℕ → Bool
 narrow_at w k = leb (get_or w k 0) top32
@@ -163,15 +171,9 @@ unfoldable pub record_in : List ℕ → Answer Record
 record_in image = guard (leb 410 (length image)) short_image 0 (guard (words_fit image) ill_shaped 0 (got (record_of image)))
 
 -- the code's answer in these terms
-abbrev pub of_imaged : Imaged → Answer Record
-of_imaged i = pick (eqb i.refusal 0) (got i.said) (refused i.refusal 0)
-
--- a refusal, and beside it the record of zeros, which says nothing
-abbrev pub nothing : ℕ → Imaged
-nothing number = record { refusal = number; said = record_of (replicate 410 0) }
-
-abbrev pub RefusedNothing : Imaged → Type 0
-RefusedNothing i = (i.refusal ≡ 0 → ⊥) → i ≡ nothing i.refusal
+abbrev pub of_imaged : Result Record Refusal → Answer Record
+of_imaged (Ok r) = got r
+of_imaged (Err n) = refused (number_of n) 0
 
 -- the words of a record at the front of old, and all else as it was; where old has too few words it stays
 unfoldable pub image_put : List ℕ → Record → List ℕ

@@ -1,133 +1,112 @@
-// The words of a record, put into a caller's image one after the other.
-ghost use Rattle.std.specs.Prelude.{◌≡◌, map, ◌+◌, ◌≤◌, length};
+// The words of a record, put into a caller's image: each function puts at the front of the words that it is lent.
+ghost use Rattle.std.specs.Prelude.{◌≡◌, map, ℕ, ◌≤◌, length};
 ghost use Rattle.codec.specs.Octets.{splice};
-ghost use Rattle.schema.specs.Table.{top32};
-ghost use Rattle.image.specs.Whole.{WholeMembers, WholeSets, WholeList, WholeHead, WholeRecord};
-ghost use Rattle.image.specs.Image.{flag_word, set_words, root_words, head_words, sets_words, list_words, image_of};
+ghost use Rattle.image.specs.Image.{flag_word, number_word, set_words, sets_words, root_words, head_words, list_words, image_of};
 
+use crate::layout::{
+    COUNT, DIGEST, HARDWARE, MGF, PADDING, PURPOSE, ROOT, SIZES, SOFTWARE, VALUES,
+};
 use records::{FieldList, NumberSet, Record, RootOfTrust};
 
-fn put_flags(out: &mut [u64], at: usize, flags: [bool; 42])
-    requires { at + 42 ≤ length out.old }
-    ensures is { out.new ≡ splice out.old at (map flag_word flags) }
-    ensures whole { length flags ≡ 42 }
-{
-    let mut k: usize = 0;
-    while k < 42 {
-        out[at + k] = flags[k] as u64;
-        k += 1;
+// What one word of an image holds.
+trait Word: Copy {
+    ghost as_word: { Self → ℕ };
+
+    fn word(self) -> u64
+        ensures { result ≡ as_word self };
+}
+
+impl Word for bool {
+    ghost as_word = { flag_word };
+
+    fn word(self) -> u64 {
+        self as u64
     }
 }
 
-fn put_numbers(out: &mut [u64], at: usize, numbers: [u64; 42])
-    requires { at + 42 ≤ length out.old }
-    ensures is { out.new ≡ splice out.old at numbers }
-    ensures whole { length numbers ≡ 42 }
-{
-    let mut k: usize = 0;
-    while k < 42 {
-        out[at + k] = numbers[k];
-        k += 1;
+impl Word for u32 {
+    ghost as_word = { number_word };
+
+    fn word(self) -> u64 {
+        self as u64
     }
 }
 
-fn put_members(out: &mut [u64], at: usize, members: [u32; 16])
-    requires { at + 16 ≤ length out.old }
-    ensures is { out.new ≡ splice out.old at members }
-    ensures whole { WholeMembers members }
+// The word of each.
+fn put_each<T: Word>(out: &mut [u64], xs: &[T])
+    requires { length xs.now ≤ length out.old }
+    ensures { out.new ≡ splice out.old 0 (map T.as_word xs.now) }
 {
-    let mut k: usize = 0;
-    while k < 16 {
-        out[at + k] = members[k] as u64;
-        k += 1;
+    for (k, x) in xs.iter().enumerate() {
+        out[k] = (*x).word();
     }
 }
 
-fn put_set(out: &mut [u64], at: usize, g: NumberSet)
-    requires { at + 17 ≤ length out.old }
-    ensures is { out.new ≡ splice out.old at (set_words g) }
-    ensures whole { WholeMembers g.members }
+fn put_set(out: &mut [u64], g: &NumberSet)
+    requires { 17 ≤ length out.old }
+    ensures is { out.new ≡ splice out.old 0 (set_words g.now) }
+    ensures long { length (set_words g.now) ≡ 17 }
 {
-    let members = g.members;
-    put_members(out, at, members);
-    out[at + 16] = g.count as u64;
+    put_each(out, &g.members);
+    out[COUNT] = g.count as u64;
 }
 
-fn put_root(out: &mut [u64], at: usize, t: RootOfTrust)
-    requires { at + 7 ≤ length out.old }
-    ensures is { out.new ≡ splice out.old at (root_words t) }
-    ensures whole { t.state ≤ top32 }
+fn put_root(out: &mut [u64], t: &RootOfTrust)
+    requires { 7 ≤ length out.old }
+    ensures { out.new ≡ splice out.old 0 (root_words t.now) }
 {
-    let key = t.key;
-    let hash = t.hash;
-    out[at] = key.start as u64;
-    out[at + 1] = key.len as u64;
-    out[at + 2] = t.locked as u64;
-    out[at + 3] = t.state as u64;
-    out[at + 4] = t.hashed as u64;
-    out[at + 5] = hash.start as u64;
-    out[at + 6] = hash.len as u64;
+    out[0] = t.key.start as u64;
+    out[1] = t.key.len as u64;
+    out[2] = t.locked.word();
+    out[3] = t.state.word();
+    out[4] = t.hashed.word();
+    out[5] = t.hash.start as u64;
+    out[6] = t.hash.len as u64;
 }
 
-fn put_sets(out: &mut [u64], at: usize, l: FieldList)
-    requires { at + 68 ≤ length out.old }
-    ensures is { out.new ≡ splice out.old at (sets_words l) }
-    ensures whole { WholeSets l }
+fn put_sets(out: &mut [u64], l: &FieldList)
+    requires { 68 ≤ length out.old }
+    ensures is { out.new ≡ splice out.old 0 (sets_words l.now) }
+    ensures long { length (sets_words l.now) ≡ 68 }
 {
-    let purpose = l.purpose;
-    put_set(out, at, purpose);
-    let digest = l.digest;
-    put_set(out, at + 17, digest);
-    let padding = l.padding;
-    put_set(out, at + 34, padding);
-    let mgf = l.mgf;
-    put_set(out, at + 51, mgf);
+    put_set(out, &l.purpose);
+    put_set(&mut out[DIGEST - PURPOSE..], &l.digest);
+    put_set(&mut out[PADDING - PURPOSE..], &l.padding);
+    put_set(&mut out[MGF - PURPOSE..], &l.mgf);
 }
 
-fn put_list(out: &mut [u64], at: usize, l: FieldList)
-    requires { at + 201 ≤ length out.old }
-    ensures is { out.new ≡ splice out.old at (list_words l) }
-    ensures whole { WholeList l }
+fn put_list(out: &mut [u64], l: &FieldList)
+    requires { 201 ≤ length out.old }
+    ensures is { out.new ≡ splice out.old 0 (list_words l.now) }
+    ensures long { length (list_words l.now) ≡ 201 }
 {
-    let present = l.present;
-    put_flags(out, at, present);
-    let values = l.values;
-    put_numbers(out, at + 42, values);
-    let sizes = l.sizes;
-    put_numbers(out, at + 84, sizes);
-    put_sets(out, at + 126, l);
-    let root = l.root;
-    put_root(out, at + 194, root);
+    put_each(out, &l.present);
+    out[VALUES..SIZES].copy_from_slice(&l.values);
+    out[SIZES..PURPOSE].copy_from_slice(&l.sizes);
+    put_sets(&mut out[PURPOSE..], l);
+    put_root(&mut out[ROOT..], &l.root);
 }
 
-fn put_head(out: &mut [u64], r: Record)
+fn put_head(out: &mut [u64], r: &Record)
     requires { 8 ≤ length out.old }
-    ensures is { out.new ≡ splice out.old 0 (head_words r) }
-    ensures whole { WholeHead r }
+    ensures { out.new ≡ splice out.old 0 (head_words r.now) }
 {
-    let attestation = r.attestation;
-    let keymint = r.keymint;
-    let challenge = r.challenge;
-    let unique = r.unique;
-    out[0] = attestation.version as u64;
-    out[1] = attestation.level as u64;
-    out[2] = keymint.version as u64;
-    out[3] = keymint.level as u64;
-    out[4] = challenge.start as u64;
-    out[5] = challenge.len as u64;
-    out[6] = unique.start as u64;
-    out[7] = unique.len as u64;
+    out[0] = r.attestation.version.word();
+    out[1] = r.attestation.level.word();
+    out[2] = r.keymint.version.word();
+    out[3] = r.keymint.level.word();
+    out[4] = r.challenge.start as u64;
+    out[5] = r.challenge.len as u64;
+    out[6] = r.unique.start as u64;
+    out[7] = r.unique.len as u64;
 }
 
 // All 410 words; what stands after them in a longer image stays.
-pub(crate) fn put_words(out: &mut [u64], r: Record)
+pub(crate) fn put_words(out: &mut [u64], r: &Record)
     requires { 410 ≤ length out.old }
-    ensures is { out.new ≡ splice out.old 0 (image_of r) }
-    ensures whole { WholeRecord r }
+    ensures { out.new ≡ splice out.old 0 (image_of r.now) }
 {
     put_head(out, r);
-    let software = r.software;
-    put_list(out, 8, software);
-    let hardware = r.hardware;
-    put_list(out, 209, hardware);
+    put_list(&mut out[SOFTWARE..], &r.software);
+    put_list(&mut out[HARDWARE..], &r.hardware);
 }

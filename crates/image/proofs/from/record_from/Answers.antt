@@ -8,9 +8,9 @@ pub returns : goal.returns
 returns c =
     let w = c.args.image.now in
     record_made_lem w
-    c.security_from-attestation.ensures
-    c.security_from-keymint.ensures
-    c.part_from-challenge.ensures
-    c.part_from-unique.ensures
-    (from-drop list_from w 8 c.list_from-software.ensures)
-    (from-drop list_from w 209 c.list_from-hardware.ensures)
+    c.security_from.ensures
+    c.security_from-2.ensures
+    c.part_from.ensures
+    c.part_from-2.ensures
+    (from-drop list_from w 8 c.list_from.ensures)
+    (from-drop list_from w 209 c.list_from-2.ensures)
