@@ -1,11 +1,13 @@
 -- Parts inside a buffer: each answer of the code is the same test of `specs/Parts`, without its sums. Assumes nothing.
 use mathlib.Core.Path.{◌≡◌, refl, sym, ◌∙◌}
-use mathlib.Core.Bool.{Bool, true, false, not}
+use mathlib.Core.Logic.{◌⊎◌, inl, inr}
+use Rattle.schema.specs.declared.Kind as code
+use mathlib.Core.Bool.{Bool, true, false, not, ◌&&◌, and_assoc}
 use Prim.Native.Nat.{ℕ, ◌+◌, ◌-◌, ◌<◌, ◌≤◌}
 use native.Mathlib.Omega.{arith}
 use lib.Dec.{leb}
 use lib.ListN.{get_or}
-use borrow.Author.Tests.{le-leb, lt-leb, not-true, not-false}
+use borrow.Author.Tests.{le-leb, lt-leb}
 use Rattle.answer.specs.Answer.{pick}
 use Rattle.answer.proofs.Logic.{by_le}
 use Rattle.schema.specs.Table.{row_at, row_count}
@@ -15,7 +17,6 @@ use Rattle.records.specs.declared.RootOfTrust.{RootOfTrust}
 use Rattle.records.specs.declared.FieldList.{FieldList}
 use Rattle.records.specs.declared.Record.{Record}
 use Rattle.records.specs.Rows.{all_below}
-use Rattle.records.proofs.Rowwise.{all_none, all_more, all_fewer, all_fails}
 use Rattle.records.specs.Parts.{inside, part_inside, root_inside, content_inside, row_inside, list_inside, parts_inside}
 
 -- a start past the end, and what is left after it
@@ -29,69 +30,34 @@ fits-left start size len h =
     (λ g. lt-leb size (len - start) g ∙ sym (lt-leb (start + size) len (omega arith)))
 
 -- the boot key, then the boot hash
-module _ (t : RootOfTrust) (len : ℕ) (a : Bool) (e : a ≡ part_inside t.key len) where
-  pub key-outside : not a ≡ true → false ≡ root_inside t len
-  unfolding root_inside
-  key-outside n = rw (← e, not-true a n) refl
+pub root_whole : (t : RootOfTrust) (len : ℕ) → part_inside t.key len && pick t.hashed (part_inside t.hash len) true ≡ root_inside t len
+unfolding root_inside
+root_whole t len = refl
 
-  pub no_hash : not a ≡ false → not t.hashed ≡ true → true ≡ root_inside t len
-  unfolding root_inside pick
-  no_hash n h = rw (← e, not-false a n, not-true t.hashed h) refl
-
-  pub with_hash : (b : Bool) → not a ≡ false → not t.hashed ≡ false → b ≡ part_inside t.hash len → b ≡ root_inside t len
-  unfolding root_inside pick
-  with_hash b n h f = rw (← e, not-false a n, not-false t.hashed h) f
+-- a field of another kind has no part
+pub none_inside : (q : code.Kind) (start size len : ℕ) (t : RootOfTrust)
+    → (q ≡ code.Kind.Set) ⊎ ((q ≡ code.Kind.Number32) ⊎ ((q ≡ code.Kind.Number64) ⊎ (q ≡ code.Kind.Null))) → true ≡ content_inside (of_kind q) start size t len
+unfolding content_inside
+none_inside q start size len t (inl e) = rw e refl
+none_inside q start size len t (inr (inl e)) = rw e refl
+none_inside q start size len t (inr (inr (inl e))) = rw e refl
+none_inside q start size len t (inr (inr (inr e))) = rw e refl
 
 -- a row of a list
 module _ (l : FieldList) (len k : ℕ) where
-  pub absent-inside : get_or l.present k false ≡ false → row_inside l len k ≡ true
+  pub absent-inside : get_or l.present k false ≡ false → not (get_or l.present k false) ≡ row_inside l len k
   unfolding row_inside pick
-  absent-inside e = rw e refl
+  absent-inside n = rw n refl
 
-  pub present-inside : (r : Row) (a : Bool) → get_or l.present k false ≡ true → of_row r ≡ row_at k → a ≡ content_inside (of_kind r.kind) (get_or l.values k 0) (get_or l.sizes k 0) l.root len → row_inside l len k ≡ a
+  pub present-inside : (r : Row) (a : Bool) → get_or l.present k false ≡ true → of_row r ≡ row_at k → a ≡ content_inside (of_kind r.kind) (get_or l.values k 0) (get_or l.sizes k 0) l.root len → a ≡ row_inside l len k
   unfolding row_inside pick
-  present-inside r a e f g = rw (e, ← f) (sym g)
+  present-inside r a n f g = rw (n, ← f) g
 
--- the loop over the rows of a list
-abbrev pub SoFar : FieldList → ℕ → ℕ → Type 0
-SoFar l len k = all_below (row_inside l len) k ≡ true
-
-module _ (l : FieldList) (len : ℕ) where
-  pub rows_begin : SoFar l len 0
-  rows_begin = all_none (row_inside l len)
-
-  pub row-absent : (k : ℕ) → SoFar l len k → get_or l.present k false ≡ false → SoFar l len (k + 1)
-  row-absent k i e = all_more (row_inside l len) k i (absent-inside l len k e)
-
-  module _ (k : ℕ) (h : k < row_count) (r : Row) (a : Bool) (e : get_or l.present k false ≡ true) (f : of_row r ≡ row_at k)
-      (g : a ≡ content_inside (of_kind r.kind) (get_or l.values k 0) (get_or l.sizes k 0) l.root len) where
-    pub row-outside : not a ≡ true → false ≡ list_inside l len
-    unfolding list_inside
-    row-outside n = all_fails (row_inside l len) row_count k h (present-inside l len k r a e f g ∙ not-true a n)
-
-    pub row_inside_lem : SoFar l len k → not a ≡ false → SoFar l len (k + 1)
-    row_inside_lem i n = all_more (row_inside l len) k i (present-inside l len k r a e f g ∙ not-false a n)
-
-  pub rows_end : (k : ℕ) → SoFar l len k → row_count ≤ k → true ≡ list_inside l len
-  unfolding list_inside
-  rows_end k i h = all_fewer (row_inside l len) row_count k h i
+pub list_rows : (l : FieldList) (len : ℕ) → all_below (row_inside l len) row_count ≡ list_inside l len
+unfolding list_inside
+list_rows l len = refl
 
 -- the parts of a record, in turn
-module _ (r : Record) (len : ℕ) (a : Bool) (e : a ≡ part_inside r.challenge len) where
-  pub challenge-outside : not a ≡ true → false ≡ parts_inside r len
-  unfolding parts_inside
-  challenge-outside n = rw (← e, not-true a n) refl
-
-  module _ (n : not a ≡ false) (b : Bool) (f : b ≡ part_inside r.unique len) where
-    pub unique-outside : not b ≡ true → false ≡ parts_inside r len
-    unfolding parts_inside
-    unique-outside m = rw (← e, not-false a n, ← f, not-true b m) refl
-
-    module _ (m : not b ≡ false) (x : Bool) (g : x ≡ list_inside r.software len) where
-      pub software-outside : not x ≡ true → false ≡ parts_inside r len
-      unfolding parts_inside
-      software-outside o = rw (← e, not-false a n, ← f, not-false b m, ← g, not-true x o) refl
-
-      pub to-hardware : (y : Bool) → not x ≡ false → y ≡ list_inside r.hardware len → y ≡ parts_inside r len
-      unfolding parts_inside
-      to-hardware y o q = rw (← e, not-false a n, ← f, not-false b m, ← g, not-false x o) q
+pub parts_whole : (r : Record) (len : ℕ) → part_inside r.challenge len && part_inside r.unique len && list_inside r.software len && list_inside r.hardware len ≡ parts_inside r len
+unfolding parts_inside
+parts_whole r len = simp and_assoc refl

@@ -1,15 +1,20 @@
 -- Well-shaped records: each answer of the code is the same test of `specs/Shape`. Assumes nothing.
 use mathlib.Core.Path.{◌≡◌, refl, sym, ◌∙◌}
-use mathlib.Core.Bool.{Bool, true, false, not, ◌&&◌, true≢false}
-use mathlib.Core.List.{List}
+use native.Mathlib.Nat.{add-zero}
+use mathlib.Core.Bool.{Bool, beq, true, false, ◌&&◌, true≢false, and_assoc, and-true}
 use Prim.Native.Nat.{ℕ, zero, suc, ◌+◌, ◌<◌, ◌≤◌, ◌^◌}
 use native.Mathlib.Omega.{arith}
 use native.Mathlib.Numerals.{add-one}
-use lib.Dec.{leb, ltb, leb-zero}
-use lib.ListN.{get_or}
-use borrow.Author.Tests.{le-leb, lt-leb, lt-ltb, le-ltb, ne_eqb, leb-true, not-true, not-false}
+use lib.Dec.{leb, ltb}
+use lib.ListN.{length, get_or, take}
+use lib.Seq.{length-take-le, get_or-take}
+use mir.Syntax.{w32}
+use mir.Val.{Fits}
+use Rattle.std.specs.Prelude.{MatchBool}
+use Rattle.std.specs.List.{IsAllAdjacentAnswer, list_all, range_with_len}
+use Rattle.records.proofs.ContentShaped.{all_of}
+use borrow.Author.Tests.{le-leb, lt-leb, ne_eqb}
 use Rattle.answer.specs.Answer.{pick}
-use Rattle.answer.proofs.Logic.{by_le}
 use Rattle.schema.specs.Table.{Kind, set, number32, number64, null, octets, root, rows, row_at, known_version, held_in, level_top, hashed, top32, top64, row_count}
 use Rattle.schema.specs.Rows.{of_kind, of_row}
 use Rattle.schema.specs.declared.Row.{Row}
@@ -21,97 +26,92 @@ use Rattle.records.specs.declared.Record.{Record}
 use Rattle.records.specs.Content.{set_of, set_at}
 use Rattle.records.specs.Rows.{all_below}
 use Rattle.shape.specs.Plain.{plain_shaped, row_plain}
-use Rattle.records.specs.Shape.{member_shaped, set_shaped, root_shaped, value_shaped, row_shaped, list_shaped, head_shaped, well_shaped_record}
-use Rattle.records.proofs.Rowwise.{both_true, all_none, all_more, all_fewer, all_fails, all_agree}
+use Rattle.records.specs.Shape.{member_shaped, same, set_shaped, root_shaped, value_shaped, row_shaped, list_shaped, head_shaped, well_shaped_record}
+use Rattle.records.proofs.Rowwise.{all_fails, all_agree}
 use Rattle.records.proofs.Placed.{by_set, by_root}
+
+-- ---- tests one after the other
+
+-- a test is made where those before it, x, passed; y is what it gives and v what is known then
+pub next_true : {x y a b v : Bool} → x ≡ a → x ≡ true → v ≡ y → y ≡ b → v ≡ a && b
+next_true e t q f = q ∙ (f ∙ rw (← e, t) refl)
+
+pub next_false : {x a v : Bool} (b : Bool) → x ≡ a → x ≡ false → v ≡ x → v ≡ a && b
+next_false b e t q = q ∙ rw (← e, t) refl
+
+-- a test of each row in turn is the test of all
+range_all : (f : ℕ → Bool) (n a : ℕ) → all_below f a && list_all f (range_with_len a n) ≡ all_below f (a + n)
+unfolding all_below
+range_all f zero a = rw add-zero (and-true (all_below f a))
+range_all f (suc n) a =
+    let e : suc a + n ≡ a + suc n = omega arith in
+    sym (and_assoc (all_below f a) (f a) (list_all f (range_with_len (a + 1) n))) ∙ rw (add-one a) (range_all f n (suc a) ∙ rw e refl)
+
+pub rows_all : (f : ℕ → Bool) {r : Bool} → r ≡ list_all f (range_with_len 0 42) → r ≡ all_below f row_count
+unfolding all_below
+rows_all f e = e ∙ range_all f 42 0
+
+-- what is asked where a flag is set
+pub asked_where : (b x r : Bool) {P : Type 0} → MatchBool b P (r ≡ true) → (P → r ≡ x) → r ≡ pick b x true
+unfolding pick
+asked_where true x r e f = f e
+asked_where false x r e f = e
 
 -- ---- versions and levels
 
-module _ (v a k b : ℕ) (x : Bool) (e : x ≡ known_version v) where
-  pub version_unknown : not x ≡ true → false ≡ head_shaped v a k b
-  unfolding head_shaped
-  version_unknown n = rw (← e, not-true x n) refl
-
-  module _ (n : not x ≡ false) (top : ℕ) (f : top ≡ level_top v) (g : k < 2 ^ 32) where
-    pub level_over : top < a → false ≡ head_shaped v a k b
-    unfolding head_shaped
-    level_over h = rw (← e, not-false x n, le-leb k top32 (omega arith), ← f, lt-leb a top h) refl
-
-    pub level_within : a ≤ top → leb b top ≡ head_shaped v a k b
-    unfolding head_shaped
-    level_within h = rw (← e, not-false x n, le-leb k top32 (omega arith), ← f, le-leb a top h) refl
+pub head_whole : (v a k b top : ℕ) → top ≡ level_top v → k < 2 ^ 32 → known_version v && leb a top && leb b top ≡ head_shaped v a k b
+unfolding head_shaped
+head_whole v a k b top f h = rw (f, le-leb k top32 (omega arith)) (and_assoc (known_version v) (leb a (level_top v)) (leb b (level_top v)))
 
 -- ---- sets
 
--- the least that member i may be
-abbrev pub least_at : List ℕ → ℕ → ℕ
-least_at l zero = 0
-least_at l (suc i) = get_or l i 0 + 1
+pub too_many : (g : NumberSet) → 16 < g.count → false ≡ set_shaped g
+unfolding set_shaped
+too_many g h = rw (lt-leb g.count 16 h) refl
 
-and_true : (a : Bool) → a && true ≡ a
-and_true true = refl
-and_true false = refl
+and_false : (a : Bool) → a && false ≡ false
+and_false true = refl
+and_false false = refl
 
-member_least : (l : List ℕ) (i : ℕ) → member_shaped l i ≡ (leb (get_or l i 0) top32 && leb (least_at l i) (get_or l i 0))
-member_least l zero = rw leb-zero (sym (and_true (leb (get_or l zero 0) top32)))
-member_least l (suc i) = rw (add-one (get_or l i 0)) refl
+-- members as the code has them ascend where each is below the next
+module _ (g : NumberSet) (h : g.count ≤ 16) (z : length g.members ≡ 16) (f : (k : ℕ) → Fits w32 (get_or g.members k 0)) where
+  narrow : (k : ℕ) → leb (get_or g.members k 0) top32 ≡ true
+  narrow k = let q : Fits w32 (get_or g.members k 0) = f k in le-leb (get_or g.members k 0) top32 (omega (arith, q))
 
-pub member_own : (m least : ℕ) → m < 2 ^ 32 → leb least m ≡ (leb m top32 && leb least m)
-member_own m least h = rw (le-leb m top32 (omega arith)) refl
+  below : length (take g.count g.members) ≡ g.count
+  below = length-take-le g.count g.members (omega arith)
 
-pub record Members (l : List ℕ) (least i : ℕ) : Type 0 where
-  pub next : least ≡ least_at l i
-  pub good : all_below (member_shaped l) i ≡ true
-
-pub members_begin : (l : List ℕ) → Members l 0 0
-members_begin l = record { next = refl; good = all_none (member_shaped l) }
-
-module _ (g : NumberSet) (least i : ℕ) (m : Members g.members least i) (x : Bool) (e : x ≡ (leb (get_or g.members i 0) top32 && leb least (get_or g.members i 0))) where
-  its_shape : member_shaped g.members i ≡ x
-  its_shape = member_least g.members i ∙ rw (← m.next) (sym e)
-
-  pub member_bad : i < g.count → not x ≡ true → false ≡ set_shaped g
+  pub ascending : (b : Bool) → IsAllAdjacentAnswer (λ x y r. r ≡ ltb x y) (take g.count g.members) b → b ≡ set_shaped g
   unfolding set_shaped
-  member_bad h n = rw (← all_fails (member_shaped g.members) g.count i h (its_shape ∙ not-true x n)) (sym (and_false (leb g.count 16)))
+  ascending true e = rw (le-leb g.count 16 h) (sym (all_of (member_shaped g.members) g.count each))
     where
-      and_false : (a : Bool) → a && false ≡ false
-      and_false true = refl
-      and_false false = refl
-
-  pub member_good_lem : not x ≡ false → Members g.members (get_or g.members i 0 + 1) (i + 1)
-  member_good_lem n = record {
-    next = rw (add-one i) refl;
-    good = all_more (member_shaped g.members) i m.good (its_shape ∙ not-false x n);
-  }
-
-  pub member_small : not x ≡ false → get_or g.members i 0 ≤ top32
-  member_small n = leb-true (get_or g.members i 0) top32 (both_true (leb (get_or g.members i 0) top32) (leb least (get_or g.members i 0)) (sym e ∙ not-false x n)).0
-
-module _ (g : NumberSet) where
-  pub too_many : 16 < g.count → false ≡ set_shaped g
-  unfolding set_shaped
-  too_many h = rw (lt-leb g.count 16 h) refl
-
-  pub members_end : (least i : ℕ) → g.count ≤ 16 → Members g.members least i → g.count ≤ i → true ≡ set_shaped g
-  unfolding set_shaped
-  members_end least i h m n = rw (le-leb g.count 16 h) (all_fewer (member_shaped g.members) g.count i n m.good)
+      each : (k : ℕ) → k < g.count → member_shaped g.members k ≡ true
+      each zero q = narrow zero
+      each (suc i) q =
+          rw (narrow (suc i), ← get_or-take g.count g.members i 0 (omega arith), ← get_or-take g.count g.members (suc i) 0 q)
+          (sym (rw add-one at (e i 0 (omega (arith, below)))))
+  ascending false (k, q, e) =
+      let q1 : k + 1 < g.count = omega (arith, below) in
+      let bad : ltb (get_or g.members k 0) (get_or g.members (suc k) 0) ≡ false =
+      rw (← get_or-take g.count g.members k 0 (omega arith), ← get_or-take g.count g.members (suc k) 0 (omega arith)) (sym (rw add-one at (e 0))) in
+      rw (le-leb g.count 16 h) (all_fails (member_shaped g.members) g.count (suc k) (omega arith) (rw bad (and_false (leb (get_or g.members (suc k) 0) top32))))
 
 -- ---- RootOfTrust
 
+beq_same : (b d : Bool) → beq b d ≡ same b d
+beq_same true true = refl
+beq_same true false = refl
+beq_same false true = refl
+beq_same false false = refl
+
 module _ (v : ℕ) (t : RootOfTrust) where
-  pub state_over : 3 < t.state → false ≡ root_shaped v t
+  pub state_over : 3 < t.state → leb t.state 3 ≡ root_shaped v t
   unfolding root_shaped
   state_over h = rw (lt-leb t.state 3 h) refl
 
-  pub hash-there : t.state ≤ 3 → t.hashed ≡ true → leb 3 v ≡ root_shaped v t
+  pub state_within : t.state ≤ 3 → beq t.hashed (leb 3 v) ≡ root_shaped v t
   unfolding root_shaped hashed
-  hash-there h e = rw (le-leb t.state 3 h, e) refl
-
-  pub hash-absent : t.state ≤ 3 → t.hashed ≡ false → ltb v 3 ≡ root_shaped v t
-  unfolding root_shaped hashed
-  hash-absent h e =
-      rw (le-leb t.state 3 h, e)
-      (by_le 3 v (λ g. rw (le-leb 3 v g, le-ltb v 3 g) refl) (λ g. rw (lt-leb 3 v g, lt-ltb v 3 g) refl))
+  state_within h = rw (le-leb t.state 3 h) (beq_same t.hashed (leb 3 v))
 
 -- ---- a row of a list
 
@@ -157,45 +157,16 @@ module _ (q : code.Kind) (n : ℕ) where
 
 -- ---- the rows of a list
 
-module _ (v : ℕ) (l : FieldList) where
-  pub rows_begin : all_below (row_plain v l) 0 ≡ true
-  rows_begin = all_none (row_plain v l)
+module _ (v : ℕ) (l : FieldList) (k : ℕ) where
+  pub row-absent : get_or l.present k false ≡ false → true ≡ row_plain v l k
+  unfolding row_plain pick
+  row-absent n = rw n refl
 
-  module _ (k : ℕ) (i : all_below (row_plain v l) k ≡ true) where
-    pub row-absent : get_or l.present k false ≡ false → all_below (row_plain v l) (k + 1) ≡ true
-    unfolding row_plain pick
-    row-absent a = all_more (row_plain v l) k i (rw a refl)
-
-    module _ (h : k < row_count) (a : get_or l.present k false ≡ true) (r : Row) (f : of_row r ≡ row_at k) (x : Bool) (e : x ≡ held_in v (of_row r)) where
-      pub not_held : not x ≡ true → false ≡ all_below (row_plain v l) row_count
-      unfolding row_plain pick
-      not_held n = all_fails (row_plain v l) row_count k h (rw (a, ← f, ← e, not-true x n) refl)
-
-      module _ (n : not x ≡ false) (y : Bool) (g : y ≡ plain_shaped (of_kind r.kind) (get_or l.values k 0)) where
-        pub row_bad : not y ≡ true → false ≡ all_below (row_plain v l) row_count
-        unfolding row_plain pick
-        row_bad m = all_fails (row_plain v l) row_count k h (rw (a, ← f, ← e, not-false x n, ← g, not-true y m) refl)
-
-        pub row_good_lem : not y ≡ false → all_below (row_plain v l) (k + 1) ≡ true
-        unfolding row_plain pick
-        row_good_lem m = all_more (row_plain v l) k i (rw (a, ← f, ← e, not-false x n, ← g, not-false y m) refl)
-
-  pub rows_end : (k : ℕ) → all_below (row_plain v l) k ≡ true → row_count ≤ k → true ≡ all_below (row_plain v l) row_count
-  rows_end k i h = all_fewer (row_plain v l) row_count k h i
+  pub row-there : get_or l.present k false ≡ true → (r : Row) → of_row r ≡ row_at k → held_in v (of_row r) && plain_shaped (of_kind r.kind) (get_or l.values k 0) ≡ row_plain v l k
+  unfolding row_plain pick
+  row-there n r f = rw (n, ← f) refl
 
 -- ---- a list: its sets and 704, and its rows
-
-pub row-none : (b : Bool) (x : Bool) → not b ≡ true → true ≡ pick b x true
-unfolding pick
-row-none b x n = rw (not-true b n) refl
-
-pub row-there : (b : Bool) (x y : Bool) → not b ≡ false → y ≡ x → y ≡ pick b x true
-unfolding pick
-row-there b x y n e = rw (not-false b n) e
-
-and_false : (a : Bool) → a && false ≡ false
-and_false true = refl
-and_false false = refl
 
 -- a row whose own place is ill-shaped
 apart_bad : (b held x : Bool) → pick b x true ≡ false → pick b (held && x) true ≡ false
@@ -210,32 +181,28 @@ apart_good true held x e = rw e refl
 apart_good false held x e = refl
 
 module _ (v : ℕ) (l : FieldList) where
-  pub purpose_bad : (x : Bool) → x ≡ pick (get_or l.present 0 false) (set_shaped l.purpose) true → not x ≡ true → false ≡ list_shaped v l
-  unfolding list_shaped row_shaped rows value_shaped pick
-  purpose_bad x e n = all_fails (row_shaped v l) row_count 0 (omega arith) (apart_bad (get_or l.present 0 false) (held_in v (row_at 0)) (set_shaped l.purpose) (sym e ∙ not-true x n))
+  -- a row whose own place x is ill-shaped
+  own_bad : (k : ℕ) (x : Bool) → k < row_count → value_shaped v (row_at k).kind (get_or l.values k 0) (set_at l (row_at k).number) l.root ≡ x → pick (get_or l.present k false) x true ≡ false → false ≡ list_shaped v l
+  unfolding list_shaped row_shaped
+  own_bad k x h e n = all_fails (row_shaped v l) row_count k h (rw e (apart_bad (get_or l.present k false) (held_in v (row_at k)) x n))
 
-  pub digest_bad : (x : Bool) → x ≡ pick (get_or l.present 3 false) (set_shaped l.digest) true → not x ≡ true → false ≡ list_shaped v l
-  unfolding list_shaped row_shaped rows value_shaped pick
-  digest_bad x e n = all_fails (row_shaped v l) row_count 3 (omega arith) (apart_bad (get_or l.present 3 false) (held_in v (row_at 3)) (set_shaped l.digest) (sym e ∙ not-true x n))
+  -- what is asked of the places that are apart
+  abbrev pub purpose-shaped : Bool
+  purpose-shaped = pick (get_or l.present 0 false) (set_shaped l.purpose) true
 
-  pub padding_bad : (x : Bool) → x ≡ pick (get_or l.present 4 false) (set_shaped l.padding) true → not x ≡ true → false ≡ list_shaped v l
-  unfolding list_shaped row_shaped rows value_shaped pick
-  padding_bad x e n = all_fails (row_shaped v l) row_count 4 (omega arith) (apart_bad (get_or l.present 4 false) (held_in v (row_at 4)) (set_shaped l.padding) (sym e ∙ not-true x n))
+  abbrev pub digest-shaped : Bool
+  digest-shaped = pick (get_or l.present 3 false) (set_shaped l.digest) true
 
-  pub mgf_bad : (x : Bool) → x ≡ pick (get_or l.present 7 false) (set_shaped l.mgf) true → not x ≡ true → false ≡ list_shaped v l
-  unfolding list_shaped row_shaped rows value_shaped pick
-  mgf_bad x e n = all_fails (row_shaped v l) row_count 7 (omega arith) (apart_bad (get_or l.present 7 false) (held_in v (row_at 7)) (set_shaped l.mgf) (sym e ∙ not-true x n))
+  abbrev pub padding-shaped : Bool
+  padding-shaped = pick (get_or l.present 4 false) (set_shaped l.padding) true
 
-  pub root_bad : (x : Bool) → x ≡ pick (get_or l.present 26 false) (root_shaped v l.root) true → not x ≡ true → false ≡ list_shaped v l
-  unfolding list_shaped row_shaped rows value_shaped pick
-  root_bad x e n = all_fails (row_shaped v l) row_count 26 (omega arith) (apart_bad (get_or l.present 26 false) (held_in v (row_at 26)) (root_shaped v l.root) (sym e ∙ not-true x n))
+  abbrev pub mgf-shaped : Bool
+  mgf-shaped = pick (get_or l.present 7 false) (set_shaped l.mgf) true
 
-  module _ (a b d f g : Bool)
-      (ea : a ≡ pick (get_or l.present 0 false) (set_shaped l.purpose) true) (na : not a ≡ false)
-      (eb : b ≡ pick (get_or l.present 3 false) (set_shaped l.digest) true) (nb : not b ≡ false)
-      (ed : d ≡ pick (get_or l.present 4 false) (set_shaped l.padding) true) (nd : not d ≡ false)
-      (ef : f ≡ pick (get_or l.present 7 false) (set_shaped l.mgf) true) (nf : not f ≡ false)
-      (eg : g ≡ pick (get_or l.present 26 false) (root_shaped v l.root) true) (ng : not g ≡ false) where
+  abbrev pub trust-shaped : Bool
+  trust-shaped = pick (get_or l.present 26 false) (root_shaped v l.root) true
+
+  module _ (ea : purpose-shaped ≡ true) (eb : digest-shaped ≡ true) (ed : padding-shaped ≡ true) (ef : mgf-shaped ≡ true) (eg : trust-shaped ≡ true) where
     apart : (k : ℕ) (j : Kind) → k < row_count → (row_at k).kind ≡ j
         → pick (get_or l.present k false) (held_in v (row_at k) && plain_shaped j (get_or l.values k 0)) true ≡ pick (get_or l.present k false) (held_in v (row_at k) && value_shaped v j (get_or l.values k 0) (set_at l (row_at k).number) l.root) true
     unfolding plain_shaped value_shaped rows pick
@@ -245,26 +212,29 @@ module _ (v : ℕ) (l : FieldList) where
     apart k octets h q = refl
     apart k set h q =
         by_set k h q
-        (λ (u : k ≡ 0). rw u (apart_good (get_or l.present 0 false) (held_in v (row_at 0)) (set_shaped l.purpose) (sym ea ∙ not-false a na)))
-        (λ (u : k ≡ 3). rw u (apart_good (get_or l.present 3 false) (held_in v (row_at 3)) (set_shaped l.digest) (sym eb ∙ not-false b nb)))
-        (λ (u : k ≡ 4). rw u (apart_good (get_or l.present 4 false) (held_in v (row_at 4)) (set_shaped l.padding) (sym ed ∙ not-false d nd)))
-        (λ (u : k ≡ 7). rw u (apart_good (get_or l.present 7 false) (held_in v (row_at 7)) (set_shaped l.mgf) (sym ef ∙ not-false f nf)))
-    apart k root h q = rw (by_root k h q) (apart_good (get_or l.present 26 false) (held_in v (row_at 26)) (root_shaped v l.root) (sym eg ∙ not-false g ng))
+        (λ (u : k ≡ 0). rw u (apart_good (get_or l.present 0 false) (held_in v (row_at 0)) (set_shaped l.purpose) ea))
+        (λ (u : k ≡ 3). rw u (apart_good (get_or l.present 3 false) (held_in v (row_at 3)) (set_shaped l.digest) eb))
+        (λ (u : k ≡ 4). rw u (apart_good (get_or l.present 4 false) (held_in v (row_at 4)) (set_shaped l.padding) ed))
+        (λ (u : k ≡ 7). rw u (apart_good (get_or l.present 7 false) (held_in v (row_at 7)) (set_shaped l.mgf) ef))
+    apart k root h q = rw (by_root k h q) (apart_good (get_or l.present 26 false) (held_in v (row_at 26)) (root_shaped v l.root) eg)
 
-    pub list_by_rows : (y : Bool) → y ≡ all_below (row_plain v l) row_count → y ≡ list_shaped v l
+    list_by_rows : all_below (row_plain v l) row_count ≡ list_shaped v l
     unfolding list_shaped row_plain row_shaped
-    list_by_rows y e = e ∙ all_agree (row_plain v l) (row_shaped v l) row_count (λ k h. apart k (row_at k).kind h refl)
+    list_by_rows = all_agree (row_plain v l) (row_shaped v l) row_count (λ k h. apart k (row_at k).kind h refl)
 
-module _ (r : Record) (x : Bool) (e : x ≡ head_shaped r.attestation.version r.attestation.level r.keymint.version r.keymint.level) where
-  pub head_bad : not x ≡ true → false ≡ well_shaped_record r
-  unfolding well_shaped_record
-  head_bad n = rw (← e, not-true x n) refl
+  pub list_whole : purpose-shaped && digest-shaped && padding-shaped && mgf-shaped && trust-shaped && all_below (row_plain v l) row_count ≡ list_shaped v l
+  unfolding rows value_shaped pick
+  list_whole = go purpose-shaped digest-shaped padding-shaped mgf-shaped trust-shaped refl refl refl refl refl
+    where
+      go : (a b d f g : Bool) → purpose-shaped ≡ a → digest-shaped ≡ b → padding-shaped ≡ d → mgf-shaped ≡ f → trust-shaped ≡ g
+          → a && b && d && f && g && all_below (row_plain v l) row_count ≡ list_shaped v l
+      go false b d f g ea eb ed ef eg = own_bad 0 (set_shaped l.purpose) (omega arith) refl ea
+      go true false d f g ea eb ed ef eg = own_bad 3 (set_shaped l.digest) (omega arith) refl eb
+      go true true false f g ea eb ed ef eg = own_bad 4 (set_shaped l.padding) (omega arith) refl ed
+      go true true true false g ea eb ed ef eg = own_bad 7 (set_shaped l.mgf) (omega arith) refl ef
+      go true true true true false ea eb ed ef eg = own_bad 26 (root_shaped v l.root) (omega arith) refl eg
+      go true true true true true ea eb ed ef eg = list_by_rows ea eb ed ef eg
 
-  module _ (n : not x ≡ false) (y : Bool) (f : y ≡ list_shaped r.attestation.version r.software) where
-    pub software_bad : not y ≡ true → false ≡ well_shaped_record r
-    unfolding well_shaped_record
-    software_bad m = rw (← e, not-false x n, ← f, not-true y m) refl
-
-    pub hardware_too : (z : Bool) → not y ≡ false → z ≡ list_shaped r.attestation.version r.hardware → z ≡ well_shaped_record r
-    unfolding well_shaped_record
-    hardware_too z m g = rw (← e, not-false x n, ← f, not-false y m) g
+pub record_whole : (r : Record) → head_shaped r.attestation.version r.attestation.level r.keymint.version r.keymint.level && list_shaped r.attestation.version r.software && list_shaped r.attestation.version r.hardware ≡ well_shaped_record r
+unfolding well_shaped_record
+record_whole r = and_assoc (head_shaped r.attestation.version r.attestation.level r.keymint.version r.keymint.level) (list_shaped r.attestation.version r.software) (list_shaped r.attestation.version r.hardware)

@@ -4,59 +4,35 @@
 
 pub mod parts;
 
-ghost use Rattle.std.specs.Prelude.{◌≡◌, true, ◌&&◌, leb};
-ghost use Rattle.answer.specs.Answer.{pick};
-ghost use Rattle.schema.specs.Table.{row_count, top32};
+ghost use Rattle.std.specs.Prelude.{◌≡◌, ◌<◌, IsTrue, MatchBool};
+ghost use Rattle.schema.specs.Table.{row_count};
 ghost use Rattle.schema.specs.Rows.{of_kind};
 ghost use Rattle.records.specs.Content.{set_of};
-ghost use Rattle.records.specs.Rows.{all_below};
 ghost use Rattle.records.specs.Shape.{set_shaped, root_shaped, list_shaped, head_shaped, well_shaped_record};
 ghost use Rattle.shape.specs.Plain.{plain_shaped, row_plain};
 
-use records::{FieldList, NumberSet, Record, RootOfTrust};
+use records::{FieldList, NumberSet, Record, RootOfTrust, Security};
 use schema::version::{known_version, level_top};
 use schema::{Kind, ROWS};
 
-// A member within its top and not below least, which is one above the member before.
-fn member_shaped(member: u32, least: u64) -> bool
-    ensures { result ≡ leb member top32 && leb least member }
-{
-    least <= (member as u64)
-}
+// The most members that a set holds.
+const MEMBERS: usize = 16;
 
 // At most 16 members, strictly ascending.
 pub fn set_shaped(g: NumberSet) -> bool
     ensures { result ≡ set_shaped g }
 {
-    let n = g.count;
-    if 16 < n {
+    if MEMBERS < g.count {
         return false;
     }
-    let members = g.members;
-    let mut least: u64 = 0;
-    let mut i: usize = 0;
-    while i < n {
-        let member = members[i];
-        if !member_shaped(member, least) {
-            return false;
-        }
-        least = (member as u64) + 1;
-        i += 1;
-    }
-    true
+    g.members[..g.count].is_sorted_by(|a, b| a < b)
 }
 
 // The state within its top, and a boot hash exactly from version 3.
-fn root_shaped(version: u32, t: RootOfTrust) -> bool
-    ensures { result ≡ root_shaped version t }
+fn root_shaped(version: u32, t: &RootOfTrust) -> bool
+    ensures { result ≡ root_shaped version t.now }
 {
-    if 3 < t.state {
-        return false;
-    }
-    if t.hashed {
-        return 3 <= version;
-    }
-    version < 3
+    t.state <= 3 && t.hashed == (3 <= version)
 }
 
 // The set of a row, by its number, of a list's four: a list goes by value, and is fourteen times as large as a set.
@@ -69,16 +45,12 @@ pub fn set_of(
 ) -> NumberSet
     ensures { result ≡ set_of number purpose digest padding mgf }
 {
-    if number == 1 {
-        return purpose;
+    match number {
+        1 => purpose,
+        5 => digest,
+        6 => padding,
+        _ => mgf,
     }
-    if number == 5 {
-        return digest;
-    }
-    if number == 6 {
-        return padding;
-    }
-    mgf
 }
 
 // A present number is within its top; what has its own place in a list is looked at there.
@@ -92,99 +64,54 @@ fn plain_shaped(kind: Kind, value: u64) -> bool
     }
 }
 
-// Every present field is one its version holds, its number within its top.
-fn rows_shaped(version: u32, l: FieldList) -> bool
-    ensures { result ≡ all_below (row_plain version l) row_count }
+// What is asked where a field or a hash is present; nothing is asked of one that is absent.
+fn where_present<F: FnOnce() -> bool>(present: bool, ask: F) -> bool
+    requires { F.IsAlwaysCallable ask }
+    ensures { MatchBool present (F.post ask result) (IsTrue result) }
 {
-    let mut k: usize = 0;
-    while k < ROWS {
-        if l.present[k] {
-            let row = schema::row_at(k);
-            if !schema::held(version, row) {
-                return false;
-            }
-            let kind = row.kind;
-            if !plain_shaped(kind, l.values[k]) {
-                return false;
-            }
-            k += 1;
-        } else {
-            k += 1;
-        }
-    }
-    true
+    !present || ask()
 }
 
-// A set, where its field is present.
-fn set_row(present: bool, g: NumberSet) -> bool
-    ensures { result ≡ pick present (set_shaped g) true }
+// A present field is one its version holds, its number within its top.
+fn row_plain(version: u32, l: &FieldList, k: usize) -> bool
+    requires { k < row_count }
+    ensures { result ≡ row_plain version l.now k }
 {
-    if !present {
+    if !l.present[k] {
         return true;
     }
-    set_shaped(g)
-}
-
-// 704, where it is present.
-fn root_row(version: u32, present: bool, t: RootOfTrust) -> bool
-    ensures { result ≡ pick present (root_shaped version t) true }
-{
-    if !present {
-        return true;
-    }
-    root_shaped(version, t)
+    let row = schema::row_at(k);
+    schema::held(version, row) && plain_shaped(row.kind, l.values[k])
 }
 
 // The four sets and 704 have their own places; no list is copied for a row.
-fn list_shaped(version: u32, l: FieldList) -> bool
-    ensures { result ≡ list_shaped version l }
+fn list_shaped(version: u32, l: &FieldList) -> bool
+    ensures { result ≡ list_shaped version l.now }
 {
-    if !set_row(l.present[0], l.purpose) {
-        return false;
-    }
-    if !set_row(l.present[3], l.digest) {
-        return false;
-    }
-    if !set_row(l.present[4], l.padding) {
-        return false;
-    }
-    if !set_row(l.present[7], l.mgf) {
-        return false;
-    }
-    if !root_row(version, l.present[26], l.root) {
-        return false;
-    }
-    rows_shaped(version, l)
+    where_present(l.present[0], || set_shaped(l.purpose))
+        && where_present(l.present[3], || set_shaped(l.digest))
+        && where_present(l.present[4], || set_shaped(l.padding))
+        && where_present(l.present[7], || set_shaped(l.mgf))
+        && where_present(l.present[26], || root_shaped(version, &l.root))
+        && (0..ROWS).all(|k| row_plain(version, l, k))
 }
 
 // The version one of the seven, KeyMint's version and both levels within their tops.
-fn head_shaped(version: u32, level: u32, keymint: u32, keylevel: u32) -> bool
-    ensures { result ≡ head_shaped version level keymint keylevel }
+fn head_shaped(attestation: Security, keymint: Security) -> bool
+    ensures { result ≡ head_shaped attestation.version attestation.level keymint.version keymint.level }
 {
-    if !known_version(version as u64) {
-        return false;
-    }
-    let top = level_top(version);
-    if top < level as u64 {
-        return false;
-    }
-    (keylevel as u64) <= top
+    let top = level_top(attestation.version);
+    known_version(attestation.version as u64)
+        && attestation.level as u64 <= top
+        && keymint.level as u64 <= top
 }
 
 // Whether a record is well-shaped, whatever a caller set it to.
 pub fn well_shaped(r: Record) -> bool
     ensures { result ≡ well_shaped_record r }
 {
-    let attestation = r.attestation;
-    let keymint = r.keymint;
-    let version = attestation.version;
-    if !head_shaped(version, attestation.level, keymint.version, keymint.level) {
-        return false;
-    }
-    let software = r.software;
-    if !list_shaped(version, software) {
-        return false;
-    }
-    let hardware = r.hardware;
-    list_shaped(version, hardware)
+    let version = r.attestation.version;
+    head_shaped(r.attestation, r.keymint)
+        && list_shaped(version, &r.software)
+        && list_shaped(version, &r.hardware)
 }

@@ -2,14 +2,14 @@
 use Rattle.shape.proofs.Shapes.{set-digest, set-mgf, set-padding, set-purpose}
 use Rattle.shape.proofs.set_of.Goals as goal
 
-pub returns-then-number-eq1 : goal.returns-then-number-eq1
-returns-then-number-eq1 c = search set-purpose
+pub returns-in-1 : goal.returns-in-1
+returns-in-1 c = set-purpose _ _ _ _ _ c.in-1.is
 
-pub returns-then-number-eq5 : goal.returns-then-number-eq5
-returns-then-number-eq5 c = search set-digest
+pub returns-in-5 : goal.returns-in-5
+returns-in-5 c = set-digest _ _ _ _ _ c.in-5.is
 
-pub returns-then-number-eq6 : goal.returns-then-number-eq6
-returns-then-number-eq6 c = search set-padding
+pub returns-in-6 : goal.returns-in-6
+returns-in-6 c = set-padding _ _ _ _ _ c.in-6.is
 
-pub returns : goal.returns
-returns c = search set-mgf
+pub returns-in_default : goal.returns-in_default
+returns-in_default c = set-mgf _ _ _ _ _ c.in_default.in_default-own.rest.0.0.1 c.in_default.in_default-own.rest.0.1 c.in_default.in_default-own.rest.1

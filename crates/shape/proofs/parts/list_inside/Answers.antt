@@ -1,23 +1,15 @@
--- `shape::parts::list_inside` meets its contract. The invariant: every row passed is inside. Assumes nothing.
-use Rattle.shape.proofs.Buffer.{rows_begin, row-absent, row-outside, row_inside_lem, rows_end}
-use mathlib.Core.Path.{ap}
-use mathlib.Core.Bool.{not}
+-- `shape::parts::list_inside` meets its contract: a test of each row in turn is the test of all. Assumes nothing.
+use mathlib.Core.Path.{refl, ◌∙◌}
+use Rattle.std.proofs.Common.{rules, tests}
+use Rattle.std.proofs.lemmas.Iterator.{YieldsList-from_range}
+use Rattle.std.proofs.lemmas.Iterator.Search.{all_from_yields_List}
+use Rattle.records.specs.Parts.{row_inside}
+use Rattle.shape.proofs.Shapes.{rows_all}
+use Rattle.shape.proofs.Buffer.{list_rows}
 use Rattle.shape.proofs.parts.list_inside.Goals as goal
 
-pub loop-k-init : goal.loop-k-init
-loop-k-init c = search rows_begin
-
-pub returns-then-not-content_inside : goal.returns-then-not-content_inside
-returns-then-not-content_inside c = search row-outside
-
-pub loop-k-preserved-then-l-k : goal.loop-k-preserved-then-l-k
-loop-k-preserved-then-l-k c =
-    let k = c.loop-k in
-    let a = c.args in
-    row_inside_lem a.l a.len k.k c.loop-k-test.true c.row_at-row.result c.content_inside.result c.if-l-k.true c.row_at-row.ensures c.content_inside.ensures k.invariant (ap not c.if-not-content_inside.false)
-
-pub loop-k-preserved : goal.loop-k-preserved
-loop-k-preserved c = search row-absent
-
 pub returns : goal.returns
-returns c = search rows_end
+returns c =
+    let test = row_inside c.args.l.now c.args.len in
+    rows_all test (all_from_yields_List test _ _ c.all.result c.all.ensures.ran (YieldsList-from_range 0 42 42 refl refl) (λ k b q e. search (rules, tests)))
+    ∙ list_rows c.args.l.now c.args.len
