@@ -1,14 +1,13 @@
 -- Asking for an octet field: each answer of the code is that of `asked_octets`, and what an answer with a part came from.
 -- Assumes nothing.
 use mathlib.Core.Path.{◌≡◌, refl, sym, ap, ◌∙◌}
-use mathlib.Core.Bool.{Bool, true, false, not}
+use mathlib.Core.Bool.{Bool, true, false}
 use mathlib.Core.Option.{Option, none, some}
 use mathlib.Core.List.{List, []}
 use Prim.Native.Nat.{ℕ, ◌+◌, ◌-◌, ◌≤◌}
 use native.Mathlib.Omega.{arith}
 use lib.Dec.{leb→le}
 use lib.ListN.{length, get_or, take, drop, get_or-eq_default}
-use borrow.Author.Tests.{not-true, not-false}
 use Rattle.answer.specs.Answer.{Answer, got, refused, guard, pick}
 use Rattle.answer.specs.Refusal.{ill_shaped}
 use Rattle.answer.proofs.Answer.{got_inj, guard_case}
@@ -16,37 +15,29 @@ use Rattle.schema.specs.Table.{Kind, set, number32, number64, null, octets, root
 use Rattle.schema.specs.Content.{ValueWith, num, nul, oct, nums, trust, Place, place_at}
 use Rattle.schema.specs.Rows.{of_kind, of_row}
 use Rattle.schema.specs.declared.Row.{Row}
-use Rattle.schema.specs.declared.Kind as code
+use Rattle.schema.specs.declared.Kind as kinds
 use Rattle.records.specs.declared.FieldList.{FieldList}
 use Rattle.records.specs.declared.Record.{Record}
-use Rattle.octet_fields.specs.declared.Asked.{Asked}
+use Rattle.std.specs.Prelude as code
+use Rattle.std.specs.Prelude.{Result, Ok, Err}
+use Rattle.answer.specs.declared.Refused.{Refused}
+use Rattle.records.specs.declared.Part.{Part}
 use Rattle.records.specs.Content.{fields_of}
 use Rattle.records.specs.Fields.{field_value}
-use Rattle.records.specs.Parts.{inside}
-use Rattle.octet_fields.specs.AskedRow.{asked_in, asked_at}
-use Rattle.octet_fields.specs.Asked.{list_of, asked_of, asked_octets, part_asked, octet_field_of, start_asked, moved_on, of_asked}
-
--- ---- the list that is asked
-
-module _ (r : Record) (hardware : Bool) where
-  pub hardware_list : hardware ≡ true → r.hardware ≡ list_of r hardware
-  unfolding pick
-  hardware_list e = rw e refl
-
-  pub software_list : hardware ≡ false → r.software ≡ list_of r hardware
-  unfolding pick
-  software_list e = rw e refl
+use Rattle.records.specs.Parts.{inside, part_inside}
+use Rattle.octet_fields.specs.AskedRow.{asked_in, asked_part, asked_at}
+use Rattle.octet_fields.specs.Asked.{list_of, asked_of, asked_octets, octet_field_of, start_asked, moved_on, of_asked}
 
 -- ---- a present octet field
 
-module _ (start size len : ℕ) (a : Bool) (e : a ≡ inside start size len) where
-  pub part-outside : not a ≡ true → refused ill_shaped 0 ≡ asked_in octets true start size len
+module _ (p : Part) (len : ℕ) (a : Bool) (e : a ≡ part_inside p len) where
+  pub part-outside : a ≡ false → refused ill_shaped 0 ≡ asked_part p len
   unfolding asked_in guard pick
-  part-outside n = rw (← e, not-true a n) refl
+  part-outside n = rw (← e, n) refl
 
-  pub part-there : not a ≡ false → got (some (start, size)) ≡ asked_in octets true start size len
+  pub part-there : a ≡ true → got (some (p.start, p.len)) ≡ asked_part p len
   unfolding asked_in guard pick
-  part-there n = rw (← e, not-false a n) refl
+  part-there n = rw (← e, n) refl
 
 -- ---- a row of a list
 
@@ -59,33 +50,36 @@ no_part null start size len = refl
 no_part octets start size len = refl
 no_part root start size len = refl
 
-other_kind : (k : code.Kind) (p : Bool) (start size len : ℕ) → (k ≡ code.Kind.Octets → ⊥) → got none ≡ asked_in (of_kind k) p start size len
+other_kind : (k : kinds.Kind) (p : Bool) (start size len : ℕ) → (k ≡ kinds.Kind.Octets → ⊥) → got none ≡ asked_in (of_kind k) p start size len
 unfolding asked_in
-other_kind code.Kind.Set p start size len o = refl
-other_kind code.Kind.Number32 p start size len o = refl
-other_kind code.Kind.Number64 p start size len o = refl
-other_kind code.Kind.Null p start size len o = refl
-other_kind code.Kind.Octets p start size len o = absurd (o refl)
-other_kind code.Kind.Root p start size len o = refl
+other_kind kinds.Kind.Set p start size len o = refl
+other_kind kinds.Kind.Number32 p start size len o = refl
+other_kind kinds.Kind.Number64 p start size len o = refl
+other_kind kinds.Kind.Null p start size len o = refl
+other_kind kinds.Kind.Octets p start size len o = absurd (o refl)
+other_kind kinds.Kind.Root p start size len o = refl
 
 module _ (l : FieldList) (number len k : ℕ) (i : k ≡ index_of rows number) where
   pub no_row : row_count ≤ k → got none ≡ asked_at l (index_of rows number) len
   unfolding asked_at asked_in rows
   no_row h = rw (← i, get_or-eq_default rows (row 0 null 1 0) h) refl
 
-  pub field-absent : not (get_or l.present k false) ≡ true → got none ≡ asked_at l (index_of rows number) len
+  pub field-absent : get_or l.present k false ≡ false → got none ≡ asked_at l (index_of rows number) len
   unfolding asked_at
-  field-absent n = rw (← i, not-true (get_or l.present k false) n) (no_part (row_at k).kind (get_or l.values k 0) (get_or l.sizes k 0) len)
+  field-absent n = rw (← i, n) (no_part (row_at k).kind (get_or l.values k 0) (get_or l.sizes k 0) len)
 
   module _ (r : Row) (f : of_row r ≡ row_at k) where
-    pub no_octets : (r.kind ≡ code.Kind.Octets → ⊥) → got none ≡ asked_at l (index_of rows number) len
+    pub no_octets : (r.kind ≡ kinds.Kind.Octets → ⊥) → got none ≡ asked_at l (index_of rows number) len
     unfolding asked_at
     no_octets o = rw (← i, ← f) (other_kind r.kind (get_or l.present k false) (get_or l.values k 0) (get_or l.sizes k 0) len o)
 
-    pub its_octets : (a : Answer (Option (ℕ × ℕ))) → not (get_or l.present k false) ≡ false → r.kind ≡ code.Kind.Octets
+    pub its_octets : (a : Answer (Option (ℕ × ℕ))) → get_or l.present k false ≡ true → r.kind ≡ kinds.Kind.Octets
         → a ≡ asked_in octets true (get_or l.values k 0) (get_or l.sizes k 0) len → a ≡ asked_at l (index_of rows number) len
     unfolding asked_at
-    its_octets a n q g = rw (← i, ← f, q, not-false (get_or l.present k false) n) g
+    its_octets a n q g = rw (← i, ← f, q, n) g
+
+pub no_row_at : (l : FieldList) (number len : ℕ) → row_count ≡ index_of rows number → got none ≡ asked_at l (index_of rows number) len
+no_row_at l number len i = no_row l number len row_count i (omega arith)
 
 -- ---- back from an answer
 
@@ -107,35 +101,31 @@ inside_of (some (oct p)) len a z e =
 inside_of (some (nums l)) len a z e = absurd (none_some (got_inj e))
 inside_of (some (trust r)) len a z e = absurd (none_some (got_inj e))
 
-module _ (s : List ℕ) (r : Record) (hardware : Bool) (number : ℕ) (x : Asked) (e : of_asked x ≡ asked_octets r hardware number (length s)) where
-  pub asked-inside : (a z : ℕ) → x ≡ Asked.At a z → a + z ≤ length s
+module _ (s : List ℕ) (r : Record) (hardware : Bool) (number : ℕ) (x : Result (code.Option Part) Refused) (e : of_asked x ≡ asked_octets r hardware number (length s)) where
+  pub asked-inside : (p : Part) → x ≡ Ok (code.Some p) → p.start + p.len ≤ length s
   unfolding asked_octets
-  asked-inside a z f = inside_of (field_value (fields_of (list_of r hardware) place_at) number) (length s) a z (sym e ∙ ap of_asked f)
+  asked-inside p f = inside_of (field_value (fields_of (list_of r hardware) place_at) number) (length s) p.start p.len (sym e ∙ ap of_asked f)
 
-  pub asked-part : (a z : ℕ) → x ≡ Asked.At a z → take (a + z - a) (drop a s) ≡ octet_field_of s r hardware number
-  asked-part a z f =
-      let n : a + z - a ≡ z = omega arith in
+  pub asked-part : (p : Part) → x ≡ Ok (code.Some p) → take (p.start + p.len - p.start) (drop p.start s) ≡ octet_field_of s r hardware number
+  asked-part p f =
+      let n : p.start + p.len - p.start ≡ p.len = omega arith in
       rw (n, ← e, f) refl
 
-  pub asked-nothing : ((a z : ℕ) → x ≡ Asked.At a z → ⊥) → [] ≡ octet_field_of s r hardware number
-  asked-nothing o = rw (← e) (go x o)
-    where
-      go : (y : Asked) → ((a z : ℕ) → y ≡ Asked.At a z → ⊥) → [] ≡ part_asked s (of_asked y)
-      go (Asked.At a z) q = absurd (q a z refl)
-      go Asked.Absent q = refl
-      go (Asked.Refused n p) q = refl
+  pub absent-part : x ≡ Ok code.None → [] ≡ octet_field_of s r hardware number
+  absent-part f = rw (← e, f) refl
+
+  pub refused-part : (n : Refused) → x ≡ Err n → [] ≡ octet_field_of s r hardware number
+  refused-part n f = rw (← e, f) refl
 
   -- and it begins where the answer says
-  pub asked-start : (a z : ℕ) → x ≡ Asked.At a z → a ≡ start_asked (asked_octets r hardware number (length s))
-  asked-start a z f = rw (← e, f) refl
+  pub asked-start : (p : Part) → x ≡ Ok (code.Some p) → p.start ≡ start_asked (asked_octets r hardware number (length s))
+  asked-start p f = rw (← e, f) refl
 
-  pub nothing-start : ((a z : ℕ) → x ≡ Asked.At a z → ⊥) → 0 ≡ start_asked (asked_octets r hardware number (length s))
-  nothing-start o = rw (← e) (go x o)
-    where
-      go : (y : Asked) → ((a z : ℕ) → y ≡ Asked.At a z → ⊥) → 0 ≡ start_asked (of_asked y)
-      go (Asked.At a z) q = absurd (q a z refl)
-      go Asked.Absent q = refl
-      go (Asked.Refused n p) q = refl
+  pub absent-start : x ≡ Ok code.None → 0 ≡ start_asked (asked_octets r hardware number (length s))
+  absent-start f = rw (← e, f) refl
+
+  pub refused-start : (n : Refused) → x ≡ Err n → 0 ≡ start_asked (asked_octets r hardware number (length s))
+  refused-start n f = rw (← e, f) refl
 
 pub moved : (at : ℕ × ℕ) (m n o : ℕ) → m ≡ n → o ≡ at.1 + m → ◌≡◌ {A = ℕ × ℕ} (at.0, o) (moved_on at n)
 moved at m n o e q = rw (q, e) refl

@@ -16,6 +16,7 @@ use Rattle.schema.specs.Table.{Kind, set, number32, number64, null, octets, root
 use Rattle.schema.specs.Content.{ValueWith, num, nul, oct, nums, trust, Place, place_at}
 use Rattle.schema.proofs.Table.{find-place}
 use Rattle.records.specs.declared.FieldList.{FieldList}
+use Rattle.records.specs.declared.Record.{Record}
 use Rattle.records.specs.Content.{value_at, fields_of}
 use Rattle.records.specs.Fields.{field_value}
 use Rattle.records.specs.Parts.{inside}
@@ -53,6 +54,16 @@ module _ (l : FieldList) (len : ℕ) where
       (λ h. sym (no_row l n len (index_of rows n) refl h) ∙ rw (no_row_has l place_at row_count n (λ j i e. absurd (omega (arith, rw e at (place_below rows (row 0 null 1 0) j i))))) refl)
       (λ h. by_kind (row_at (index_of rows n)).kind (get_or l.present (index_of rows n) false) (row_at (index_of rows n)).number (index_of rows n)
       ∙ ap (λ (o : Option (ValueWith Place)). asked_of o len) (sym (row-value l place_at (index_of rows n) h) ∙ ap (field_value (fields_of l place_at)) (number_at n h)))
+
+-- the list that is asked
+module _ (r : Record) (hardware : Bool) (number len : ℕ) where
+  pub asked_hardware : hardware ≡ true → asked_at r.hardware (index_of rows number) len ≡ asked_octets r hardware number len
+  unfolding asked_octets pick
+  asked_hardware e = rw e (asked_by_number r.hardware len number)
+
+  pub asked_software : hardware ≡ false → asked_at r.software (index_of rows number) len ≡ asked_octets r hardware number len
+  unfolding asked_octets pick
+  asked_software e = rw e (asked_by_number r.software len number)
 
 -- ---- what each answer means, of a value that is there or not
 

@@ -1,9 +1,11 @@
 -- Document 01, "KeyDescription": "An octet field, asked for by list and number, is handed back as the very part of the
 -- caller's extension that holds it; asking for an absent one, or for a number that is no octet field, says absent; a part
 -- outside the lent bytes gives 20".
-use Rattle.std.specs.Prelude.{Bool, List, [], ℕ, ◌+◌, leb, length}
+use Rattle.std.specs.Prelude as code
+use Rattle.std.specs.Prelude.{Bool, List, [], ℕ, ◌+◌, leb, length, Result}
 use Rattle.std.proofs.Math.Option.{Option, none, some}
-use Rattle.answer.specs.Answer.{Answer, got, refused, guard, pick}
+use Rattle.answer.specs.declared.Refused.{Refused}
+use Rattle.answer.specs.Answer.{Answer, got, refused, guard, pick, answer_of}
 use Rattle.answer.specs.Refusal.{ill_shaped}
 use Rattle.schema.specs.Content.{ValueWith, num, nul, oct, nums, trust, Place, place_at}
 use Rattle.records.specs.Content.{octets_at, fields_of}
@@ -11,7 +13,7 @@ use Rattle.records.specs.Fields.{field_value}
 use Rattle.records.specs.Parts.{inside}
 use Rattle.records.specs.declared.FieldList.{FieldList}
 use Rattle.records.specs.declared.Record.{Record}
-use Rattle.octet_fields.specs.declared.Asked.{Asked}
+use Rattle.records.specs.declared.Part.{Part}
 
 -- the list that is asked
 abbrev pub list_of : Record → Bool → FieldList
@@ -54,8 +56,11 @@ moved_on at n = (at.0, at.1 + n)
 abbrev pub start_within : ℕ → ℕ → ℕ
 start_within start n = pick (leb n start) n start
 
+-- where a part stands, of the code's parts
+abbrev pub part_place : code.Option Part → Option (ℕ × ℕ)
+part_place (code.Some p) = some (p.start, p.len)
+part_place code.None = none
+
 -- the code's answer in these terms
-abbrev pub of_asked : Asked → Answer (Option (ℕ × ℕ))
-of_asked (Asked.At start size) = got (some (start, size))
-of_asked Asked.Absent = got none
-of_asked (Asked.Refused number place) = refused number place
+abbrev pub of_asked : Result (code.Option Part) Refused → Answer (Option (ℕ × ℕ))
+of_asked r = answer_of part_place r

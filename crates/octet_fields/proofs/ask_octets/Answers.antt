@@ -1,14 +1,10 @@
 -- `octet_fields::ask_octets` meets its contract: it asks the list that is meant. Assumes nothing.
-use mathlib.Core.Path.{ap, ◌∙◌}
-use Rattle.schema.specs.Table.{rows, index_of}
-use Rattle.records.specs.declared.FieldList.{FieldList}
-use Rattle.octet_fields.specs.AskedRow.{asked_at}
-use Rattle.octet_fields.specs.Asked.{list_of, asked_octets}
-use Rattle.octet_fields.proofs.OctetFields.{asked_by_number}
+use mathlib.Core.Path.{◌∙◌}
+use Rattle.octet_fields.proofs.OctetFields.{asked_hardware, asked_software}
 use Rattle.octet_fields.proofs.ask_octets.Goals as goal
 
-pub returns : goal.returns
-unfolding asked_octets
-returns c =
-    let a = c.args in
-    c.ask_list.ensures ∙ ap (λ (l : FieldList). asked_at l (index_of rows a.number) a.len) c.list_of-l.ensures ∙ asked_by_number (list_of a.r a.hardware) a.len a.number
+pub returns-then-hardware : goal.returns-then-hardware
+returns-then-hardware c = c.ask_list.ensures ∙ asked_hardware c.args.r c.args.hardware c.args.number c.args.len c.if-hardware.true
+
+pub returns-else-hardware : goal.returns-else-hardware
+returns-else-hardware c = c.ask_list-else-hardware.ensures ∙ asked_software c.args.r c.args.hardware c.args.number c.args.len c.if-hardware.false
