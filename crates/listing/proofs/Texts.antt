@@ -4,8 +4,7 @@ use mathlib.Core.List.{List, [], ◌∷◌, ◌++◌, append_assoc, append-nil}
 use Prim.Native.Nat.{ℕ, zero, suc, ◌+◌, ◌*◌, ◌/◌, ◌%◌, ◌^◌, ◌<◌, ◌≤◌}
 use native.Mathlib.Omega.{arith}
 use native.Mathlib.Nat.{pow-suc}
-use lib.ListN.{length, take, drop, get_or, length-append}
-use lib.Seq.{take-suc, length-take-le, drop-append-le}
+use lib.ListN.{length, length-append}
 use borrow.Author.Tests.{lt-ltb, le-ltb}
 use Rattle.answer.specs.Answer.{pick}
 use Rattle.listing.specs.Text.{space, dash, digits, decimal, hex_digit, hex_pair, hex_text, octets_text, more_numbers, numbers_text}
@@ -91,24 +90,20 @@ octets_text_some (x ∷ xs) h = refl
 
 -- ---- a set
 
-more_numbers-append : (xs ys : List ℕ) → more_numbers (xs ++ ys) ≡ more_numbers xs ++ more_numbers ys
+pub more_numbers-append : (xs ys : List ℕ) → more_numbers (xs ++ ys) ≡ more_numbers xs ++ more_numbers ys
 unfolding more_numbers
 more_numbers-append [] ys = refl
 more_numbers-append (x ∷ xs) ys = rw (more_numbers-append xs ys) (simp append_assoc)
 
--- one more member after the first
-pub more_numbers_more : (m : List ℕ) (i : ℕ) → 0 < i → i < length m → more_numbers (drop 1 (take (suc i) m)) ≡ more_numbers (drop 1 (take i m)) ++ (space ++ decimal (get_or m i 0))
+pub more_numbers_one : (n : ℕ) → more_numbers (n ∷ []) ≡ space ++ decimal n
 unfolding more_numbers
-more_numbers_more m i h l =
-    let z : 1 ≤ length (take i m) = rw (length-take-le i m (omega arith)) h in
-    rw (take-suc m i 0 l, drop-append-le 1 (take i m) (get_or m i 0 ∷ []) z, more_numbers-append, append-nil) refl
+more_numbers_one n = rw append-nil refl
 
-pub numbers_text-none : (m : List ℕ) (n : ℕ) → n ≡ 0 → dash ≡ numbers_text (take n m)
+pub numbers_text-none : (xs : List ℕ) → length xs ≡ 0 → dash ≡ numbers_text xs
 unfolding numbers_text
-numbers_text-none m n e = rw e refl
+numbers_text-none [] e = refl
+numbers_text-none (x ∷ xs) e = absurd (omega arith)
 
-pub numbers_text_some : (m : List ℕ) (n : ℕ) → (n ≡ 0 → ⊥) → 0 < length m → decimal (get_or m 0 0) ++ more_numbers (drop 1 (take n m)) ≡ numbers_text (take n m)
+pub numbers_text_some : (x : ℕ) (xs : List ℕ) → decimal x ++ more_numbers xs ≡ numbers_text (x ∷ xs)
 unfolding numbers_text
-numbers_text_some m zero h l = absurd (h refl)
-numbers_text_some [] (suc n) h l = absurd (omega arith)
-numbers_text_some (x ∷ xs) (suc n) h l = refl
+numbers_text_some x xs = refl

@@ -2,16 +2,18 @@
 -- other. Assumes nothing.
 use mathlib.Core.Path.{◌≡◌, refl, sym, ap, ◌∙◌}
 use mathlib.Core.Bool.{Bool, true, false}
+use mathlib.Core.Logic.{◌⊎◌, inl, inr}
 use mathlib.Core.List.{List, [], ◌∷◌, ◌++◌, append-nil, append_assoc}
-use Prim.Native.Nat.{ℕ, suc, ◌+◌, ◌-◌, ◌*◌, ◌/◌, ◌%◌, ◌<◌, ◌≤◌}
+use Prim.Native.Nat.{ℕ, suc, ◌+◌, ◌-◌, ◌*◌, ◌/◌, ◌%◌, ◌<◌, ◌≤◌, min}
 use native.Mathlib.Omega.{arith}
 use native.Mathlib.Numerals.{add-one}
 use mir.Val.{Fits}
 use mir.Syntax.{w64}
 use lib.ListN.{length, take, drop, get_or, length-drop, drop_of_length-le}
-use lib.Seq.{take-suc, take_all, take-nil, take-length, length-take-le}
+use lib.Seq.{take-suc, take_all, take-length, length-take-le}
 use borrow.Author.Tests.{le-leb, lt-leb}
 use Rattle.answer.specs.Answer.{got, refused, guard, pick}
+use Rattle.answer.proofs.Logic.{by_le}
 use Rattle.answer.specs.Refusal.{output_short}
 use Rattle.codec.specs.Octets.{left}
 use Rattle.schema.specs.declared.Kind.{Kind}
@@ -29,7 +31,7 @@ use Rattle.listing.specs.Text.{named, numbers_line, octets_line, field_line, fie
 use Rattle.listing.specs.Put.{PutsText}
 use Rattle.listing.specs.Room.{parts, field_of, line_room, lines_room, needed, refusal_needed, listed}
 use Rattle.listing.proofs.Joins.{joined, within, same, nothing, whole}
-use Rattle.listing.proofs.Texts.{decimal_one, decimal_more, decimal-few, hex_text-append, hex_text_one, octets_text-none, octets_text_some, more_numbers_more, numbers_text-none, numbers_text_some}
+use Rattle.listing.proofs.Texts.{decimal_one, decimal_more, decimal-few, hex_text-append, hex_text_one, octets_text-none, octets_text_some, more_numbers-append, more_numbers_one, numbers_text-none, numbers_text_some}
 
 -- ---- a constant text, octet by octet
 
@@ -68,70 +70,71 @@ hex_end s i h l e = let z : i ≡ length s = omega arith in same (hex_text s) (a
 
 -- ---- a part of the bytes, cut at their end
 
-pub part_none : (s : List ℕ) (start len : ℕ) {old new : List ℕ} {p q : ℕ} → length s ≤ start → PutsText old p dash 1 new q
-    → PutsText old p (octets_text (octets_at s start len)) (2 * length s + 1) new q
-part_none s start len h e =
-    let z : length (take len (drop start s)) ≤ 0 = rw (drop_of_length-le s h, take-nil) (omega arith) in
-    within (2 * length s + 1) (omega arith) (same (octets_text (octets_at s start len)) (octets_text-none (take len (drop start s)) z) e)
+-- as many octets as there are from a start on
+pub part_cut : (s : List ℕ) (start len : ℕ) {k m : ℕ} → k ≡ min start (length s) → m ≡ min len (length (take (length s - k) (drop k s))) → take m (take (length s - k) (drop k s)) ≡ octets_at s start len
+part_cut s start len {k} {m} e f =
+    let n : length (drop k s) ≡ length s - k = length-drop k s in
+    let r : take (length s - k) (drop k s) ≡ drop k s = take_all (length s - k) (drop k s) (omega (arith, n)) in
+    let d : drop k s ≡ drop start s =
+    by_le start (length s)
+    (λ h. let z : k ≡ start = omega (arith, e) in rw z refl)
+    (λ h. let z : k ≡ length s = omega (arith, e) in rw z (drop_of_length-le s {i = length s} (omega arith) ∙ sym (drop_of_length-le s {i = start} (omega arith)))) in
+    let g : m ≡ min len (length (drop start s)) = rw (r, d) at f in
+    rw (r, d)
+    (by_le len (length (drop start s))
+    (λ h. let z : m ≡ len = omega (arith, g) in rw z refl)
+    (λ h. let z : m ≡ length (drop start s) = omega (arith, g) in rw z (take-length (drop start s) ∙ sym (take_all len (drop start s) (omega (arith, h))))))
 
-pub part_zero : (s : List ℕ) (start len : ℕ) {old new : List ℕ} {p q : ℕ} → len ≡ 0 → PutsText old p dash 1 new q
-    → PutsText old p (octets_text (octets_at s start len)) (2 * length s + 1) new q
-part_zero s start len h e =
-    let z : length (take len (drop start s)) ≤ 0 = rw h (omega arith) in
-    within (2 * length s + 1) (omega arith) (same (octets_text (octets_at s start len)) (octets_text-none (take len (drop start s)) z) e)
+-- at most as many as all
+part_few : (s : List ℕ) (start len : ℕ) → length (octets_at s start len) ≤ length s
+part_few s start len =
+    let n : length (drop start s) ≡ length s - start = length-drop start s in
+    by_le len (length (drop start s))
+    (λ h. rw (length-take-le len (drop start s) h) (omega (arith, n)))
+    (λ h. rw (take_all len (drop start s) (omega (arith, h))) (omega (arith, n)))
 
--- k octets from start on
-part_some : (s : List ℕ) (start len k : ℕ) {old new : List ℕ} {p q : ℕ} → 0 < k → start + k ≤ length s → take k (drop start s) ≡ octets_at s start len
-    → PutsText old p (hex_text (take k (drop start s))) (2 * length (take k (drop start s))) new q → PutsText old p (octets_text (octets_at s start len)) (2 * length s + 1) new q
-part_some s start len k h l e f =
-    let z : length (take k (drop start s)) ≡ k = length-take-le k (drop start s) (rw length-drop (omega arith)) in
-    within (2 * length s + 1) (omega (arith, z))
-    (same (octets_text (octets_at s start len)) (octets_text_some (take k (drop start s)) (omega (arith, z)) ∙ ap octets_text e) f)
-
-pub part-rest : (s : List ℕ) (start len : ℕ) {old new : List ℕ} {p q : ℕ} → start < length s → length s - start ≤ len
-    → PutsText old p (hex_text (take (length s - start) (drop start s))) (2 * length (take (length s - start) (drop start s))) new q
+pub part_none : (s xs : List ℕ) (start len : ℕ) {old new : List ℕ} {p q : ℕ} → xs ≡ octets_at s start len → length xs ≡ 0 → PutsText old p dash 1 new q
     → PutsText old p (octets_text (octets_at s start len)) (2 * length s + 1) new q
-part-rest s start len h l e =
-    part_some s start len (length s - start) (omega arith) (omega arith)
-    (take_all (length s - start) (drop start s) (rw length-drop (omega arith)) ∙ sym (take_all len (drop start s) (rw length-drop l))) e
+part_none s xs start len e h f = within (2 * length s + 1) (omega arith) (same (octets_text (octets_at s start len)) (octets_text-none xs (omega arith) ∙ ap octets_text e) f)
 
-pub part-whole : (s : List ℕ) (start len : ℕ) {old new : List ℕ} {p q : ℕ} → start < length s → (len ≡ 0 → ⊥) → len < length s - start
-    → PutsText old p (hex_text (take (start + len - start) (drop start s))) (2 * length (take (start + len - start) (drop start s))) new q
+pub part_some : (s xs : List ℕ) (start len : ℕ) {old new : List ℕ} {p q : ℕ} → xs ≡ octets_at s start len → (length xs ≡ 0 → ⊥) → PutsText old p (hex_text xs) (2 * length xs) new q
     → PutsText old p (octets_text (octets_at s start len)) (2 * length s + 1) new q
-part-whole s start len h n l e =
-    let z : start + len - start ≡ len = omega arith in
-    part_some s start len len (omega (arith, n)) (omega arith) refl (rw z at e)
+part_some s xs start len e h f =
+    let n : length xs ≤ length s = rw e (part_few s start len) in
+    within (2 * length s + 1) (omega arith) (same (octets_text (octets_at s start len)) (octets_text_some xs (omega (arith, h)) ∙ ap octets_text e) f)
 
 -- ---- a set
 
-pub more_start : (old m : List ℕ) (p : ℕ) → PutsText old p (more_numbers (drop 1 (take 1 m))) (21 * (1 - 1)) old p
+pub more_start : (old xs : List ℕ) (p : ℕ) → PutsText old p (more_numbers (take 0 xs)) (21 * 0) old p
 unfolding more_numbers
-more_start old [] p = nothing old p
-more_start old (x ∷ m) p = nothing old p
+more_start old xs p = nothing old p
 
-pub more_more : (m : List ℕ) (i : ℕ) {old mid mid₂ new : List ℕ} {p q q₂ r : ℕ} → 0 < i → i < 16 → length m ≡ 16
-    → PutsText old p (more_numbers (drop 1 (take i m))) (21 * (i - 1)) mid q → PutsText mid q space 1 mid₂ q₂ → PutsText mid₂ q₂ (decimal (get_or m i 0)) 20 new r
-    → PutsText old p (more_numbers (drop 1 (take (i + 1) m))) (21 * (i + 1 - 1)) new r
-more_more m i h l w e f g =
-    let z : i < length m = omega arith in
-    rw (add-one, more_numbers_more m i h z) (within (21 * (suc i - 1)) (omega arith) (joined e (joined f g)))
+pub more_more : (xs : List ℕ) (i : ℕ) {old mid mid₂ new : List ℕ} {p q q₂ r : ℕ} → i < length xs
+    → PutsText old p (more_numbers (take i xs)) (21 * i) mid q → PutsText mid q space 1 mid₂ q₂ → PutsText mid₂ q₂ (decimal (get_or xs i 0)) 20 new r
+    → PutsText old p (more_numbers (take (i + 1) xs)) (21 * (i + 1)) new r
+more_more xs i h e f g = rw (add-one, take-suc xs i 0 h, more_numbers-append, more_numbers_one) (within (21 * suc i) (omega arith) (joined e (joined f g)))
 
-pub more_counted : (m : List ℕ) (i n : ℕ) {old new : List ℕ} {p q : ℕ} → n ≤ i → i ≤ n → i ≤ 16 → PutsText old p (more_numbers (drop 1 (take i m))) (21 * (i - 1)) new q
-    → PutsText old p (more_numbers (drop 1 (take n m))) 315 new q
-more_counted m i n h l w e = let z : i ≡ n = omega arith in within 315 (omega arith) (rw z at e)
+pub more_end : (xs : List ℕ) (i : ℕ) {old new : List ℕ} {p q : ℕ} → length xs ≤ i → i ≤ length xs → PutsText old p (more_numbers (take i xs)) (21 * i) new q → PutsText old p (more_numbers xs) (21 * length xs) new q
+more_end xs i h l e = let z : i ≡ length xs = omega arith in same (more_numbers xs) (ap more_numbers (take-length xs)) (rw z at e)
 
-pub more_all : (m : List ℕ) (i n : ℕ) {old new : List ℕ} {p q : ℕ} → 16 ≤ i → i ≤ 16 → i ≤ n → length m ≡ 16 → PutsText old p (more_numbers (drop 1 (take i m))) (21 * (i - 1)) new q
-    → PutsText old p (more_numbers (drop 1 (take n m))) 315 new q
-more_all m i n h l w k e =
-    let z : take i m ≡ take n m = take_all i m (omega arith) ∙ sym (take_all n m (omega arith)) in
-    within 315 (omega arith) (rw z at e)
+-- as many members as the count and the slots allow
+members_cut : (g : NumberSet) {m : ℕ} → length g.members ≡ 16 → m ≡ min g.count 16 → take m g.members ≡ members_of g
+members_cut g {m} z e =
+    by_le g.count 16
+    (λ h. let q : m ≡ g.count = omega (arith, e) in rw q refl)
+    (λ h. let q : m ≡ 16 = omega (arith, e) in rw q (take_all 16 g.members (omega arith) ∙ sym (take_all g.count g.members (omega arith))))
 
-pub set-none : (m : List ℕ) (n : ℕ) {old new : List ℕ} {p q : ℕ} → n ≡ 0 → PutsText old p dash 1 new q → PutsText old p (numbers_text (take n m)) 335 new q
-set-none m n h e = within 335 (omega arith) (same (numbers_text (take n m)) (numbers_text-none m n h) e)
+module _ (g : NumberSet) where
+  pub set-none : {m : ℕ} {old new : List ℕ} {p q : ℕ} → length g.members ≡ 16 → m ≡ min g.count 16 → length (take m g.members) ≡ 0 → PutsText old p dash 1 new q
+      → PutsText old p (numbers_text (members_of g)) 335 new q
+  set-none {m} z e h f = within 335 (omega arith) (same (numbers_text (members_of g)) (numbers_text-none (take m g.members) h ∙ ap numbers_text (members_cut g z e)) f)
 
-pub set_some : (m : List ℕ) (n : ℕ) {old mid new : List ℕ} {p q r : ℕ} → (n ≡ 0 → ⊥) → length m ≡ 16 → PutsText old p (decimal (get_or m 0 0)) 20 mid q
-    → PutsText mid q (more_numbers (drop 1 (take n m))) 315 new r → PutsText old p (numbers_text (take n m)) 335 new r
-set_some m n h l e f = same (numbers_text (take n m)) (numbers_text_some m n h (omega arith)) (joined e f)
+  pub set_some : (x : ℕ) (xs : List ℕ) {m : ℕ} {old mid new : List ℕ} {p q r : ℕ} → length g.members ≡ 16 → m ≡ min g.count 16 → take m g.members ≡ x ∷ xs → PutsText old p (decimal x) 20 mid q
+      → PutsText mid q (more_numbers xs) (21 * length xs) new r → PutsText old p (numbers_text (members_of g)) 335 new r
+  set_some x xs {m} z e t f h =
+      let l : length (take m g.members) ≡ suc (length xs) = ap length t in
+      let n : suc (length xs) ≤ 16 = omega (arith, l, e, length-take-le m g.members (omega (arith, e, z))) in
+      within 335 (omega (arith, n)) (same (numbers_text (members_of g)) (numbers_text_some x xs ∙ ap numbers_text (sym t ∙ members_cut g z e)) (joined f h))
 
 -- ---- the root of trust
 
@@ -185,13 +188,10 @@ module _ (l : FieldList) (s : List ℕ) (n k : ℕ) (kind : Kind) {old new : Lis
   unfolding value_text value_at
   value_set e g d h = rw (e, ← d) (within (335 + 0 * length s) (omega arith) h)
 
-  pub value_number32 : kind ≡ Kind.Number32 → PutsText old p (decimal (get_or l.values k 0)) 20 new q → Valued l s n k kind old p new q
+  pub value_number : (kind ≡ Kind.Number32) ⊎ (kind ≡ Kind.Number64) → PutsText old p (decimal (get_or l.values k 0)) 20 new q → Valued l s n k kind old p new q
   unfolding value_text value_at
-  value_number32 e h = rw e (within (335 + 0 * length s) (omega arith) h)
-
-  pub value_number64 : kind ≡ Kind.Number64 → PutsText old p (decimal (get_or l.values k 0)) 20 new q → Valued l s n k kind old p new q
-  unfolding value_text value_at
-  value_number64 e h = rw e (within (335 + 0 * length s) (omega arith) h)
+  value_number (inl e) h = rw e (within (335 + 0 * length s) (omega arith) h)
+  value_number (inr e) h = rw e (within (335 + 0 * length s) (omega arith) h)
 
   pub value_null : kind ≡ Kind.Null → PutsText old p yes_word 3 new q → Valued l s n k kind old p new q
   unfolding value_text value_at

@@ -1,13 +1,13 @@
 -- How much room a listing takes at most, by the length n of the bytes that its octet parts lie in, and what listing
 -- into an output answers.
-use Rattle.std.specs.Prelude.{List, ℕ, zero, suc, ◌+◌, ◌*◌, length, leb}
-use Rattle.answer.specs.Answer.{Answer, got, refused, guard}
+use Rattle.std.specs.Prelude.{List, ℕ, zero, suc, ◌+◌, ◌*◌, length, leb, Result}
+use Rattle.answer.specs.declared.Refused.{Refused}
+use Rattle.answer.specs.Answer.{Answer, got, guard, answer_of}
 use Rattle.answer.specs.Refusal.{output_short}
 use Rattle.schema.specs.Table.{Kind, set, number32, number64, null, octets, root, row_at}
 use Rattle.schema.specs.Content.{Field, field}
 use Rattle.records.specs.declared.FieldList.{FieldList}
 use Rattle.records.specs.Content.{octets_at, value_at}
-use Rattle.listing.specs.declared.Listed.{Listed}
 
 -- how many octets of text a value has for each of the n bytes: two digits an octet, and 704 has two octet parts
 abbrev pub parts : Kind → ℕ
@@ -39,11 +39,11 @@ needed n = 32768 + 56 * n
 abbrev pub refusal_needed : ℕ
 refusal_needed = 64
 
--- a short output is document 01's 21, "output shorter", place 0
-abbrev pub of_listed : Listed → Answer ℕ
-of_listed (Listed.Wrote n) = got n
-of_listed Listed.Short = refused output_short 0
+-- the code's answer in these terms: how long the text is
+abbrev pub of_listed : Result ℕ Refused → Answer ℕ
+of_listed r = answer_of (λ n. n) r
 
--- how long the text is, where the output has the room that is asked of it; else it is short
+-- how long the text is, where the output has the room that is asked of it; a short output is document 01's 21, "output
+-- shorter", place 0
 unfoldable pub listed : ℕ → List ℕ → List ℕ → Answer ℕ
 listed room out text = guard (leb room (length out)) output_short 0 (got (length text))

@@ -5,7 +5,7 @@
 // counting when all of it fits.
 #![tactic(auto)]
 
-ghost use Rattle.std.specs.Prelude.{◌≡◌, [], ◌∷◌, ◌+◌, ◌*◌, ◌<◌, ◌≤◌, length, drop};
+ghost use Rattle.std.specs.Prelude.{◌≡◌, [], ◌∷◌, ◌+◌, ◌*◌, ◌<◌, ◌≤◌, length};
 ghost use Rattle.schema.specs.Table.{row_count};
 ghost use Rattle.records.specs.Content.{part_of, members_of};
 ghost use Rattle.listing.specs.Text.{dash, decimal, hex_digit, hex_text, octets_text, more_numbers, numbers_text, locked_text, state_text, named, count_line};
@@ -13,7 +13,8 @@ ghost use Rattle.listing.specs.Put.{PutsText};
 ghost use Rattle.listing.specs.Room.{of_listed};
 ghost use Rattle.listing.specs.Lines.{PutsNumbers, PutsOctets, PutsRoot, PutsValue, PutsField, PutsList, PutsHead, PutsRecord, record_listed, record_left, refusal_listed, refusal_left};
 
-use records::{FieldList, NumberSet, Part, Record, RootOfTrust, Security};
+use answer::{Refusal, Refused};
+use records::{FieldList, NumberSet, Part, Record, RootOfTrust};
 use schema::{Kind, ROWS, Row};
 use shape::set_of;
 
@@ -33,10 +34,8 @@ fn put_text(out: &mut [u8], at: usize, text: &[u8]) -> usize
     ensures { PutsText out.old at text.now (length text.now) out.new result }
 {
     let mut p = at;
-    let mut i: usize = 0;
-    while i < text.len() {
-        p = put_octet(out, p, text[i]);
-        i += 1;
+    for b in text {
+        p = put_octet(out, p, *b);
     }
     p
 }
@@ -65,12 +64,9 @@ fn put_hex(out: &mut [u8], at: usize, s: &[u8]) -> usize
     ensures { PutsText out.old at (hex_text s.now) (2 * length s.now) out.new result }
 {
     let mut p = at;
-    let mut i: usize = 0;
-    while i < s.len() {
-        let b = s[i];
-        p = put_octet(out, p, hex_digit(b / 16));
-        p = put_octet(out, p, hex_digit(b % 16));
-        i += 1;
+    for b in s {
+        p = put_octet(out, p, hex_digit(*b / 16));
+        p = put_octet(out, p, hex_digit(*b % 16));
     }
     p
 }
@@ -86,52 +82,38 @@ fn put_none(out: &mut [u8], at: usize) -> usize
 fn put_part(out: &mut [u8], at: usize, s: &[u8], part: Part) -> usize
     ensures { PutsText out.old at (octets_text (part_of s.now part)) (2 * length s.now + 1) out.new result }
 {
-    let start = part.start;
-    let len = part.len;
-    let n = s.len();
-    if n <= start {
+    let rest = &s[part.start.min(s.len())..];
+    let octets = &rest[..part.len.min(rest.len())];
+    if octets.is_empty() {
         return put_none(out, at);
     }
-    if len == 0 {
-        return put_none(out, at);
-    }
-    if n - start <= len {
-        return put_hex(out, at, &s[start..n]);
-    }
-    let end = start + len;
-    put_hex(out, at, &s[start..end])
+    put_hex(out, at, octets)
 }
 
-// The members of a set after its first, as many as its count and its slots allow, each after a space.
-fn put_more(out: &mut [u8], at: usize, g: NumberSet) -> usize
-    requires { 0 < g.count }
-    ensures { PutsText out.old at (more_numbers (drop 1 (members_of g))) 315 out.new result }
+// Numbers, each after a space.
+fn put_more(out: &mut [u8], at: usize, numbers: &[u32]) -> usize
+    ensures { PutsText out.old at (more_numbers numbers.now) (21 * length numbers.now) out.new result }
 {
-    let members = g.members;
-    let count = g.count;
     let mut p = at;
-    let mut i: usize = 1;
-    while i < 16 {
-        if count <= i {
-            return p;
-        }
+    for n in numbers {
         p = put_octet(out, p, b' ');
-        p = put_decimal(out, p, members[i] as u64);
-        i += 1;
+        p = put_decimal(out, p, *n as u64);
     }
     p
 }
 
-// The members of a set, "-" where it has none.
-fn put_set(out: &mut [u8], at: usize, g: NumberSet) -> usize
-    ensures { PutsText out.old at (numbers_text (members_of g)) 335 out.new result }
+// The members of a set, as many as its count and its slots allow, "-" where it has none.
+fn put_set(out: &mut [u8], at: usize, g: &NumberSet) -> usize
+    ensures { PutsText out.old at (numbers_text (members_of g.now)) 335 out.new result }
 {
-    if g.count == 0 {
-        return put_none(out, at);
+    let members = &g.members[..g.count.min(16)];
+    match members.split_first() {
+        None => put_none(out, at),
+        Some((first, more)) => {
+            let p = put_decimal(out, at, *first as u64);
+            put_more(out, p, more)
+        }
     }
-    let first = g.members[0];
-    let p = put_decimal(out, at, first as u64);
-    put_more(out, p, g)
 }
 
 // "locked 0 or 1".
@@ -152,8 +134,8 @@ fn put_state(out: &mut [u8], at: usize, locked: bool, state: u32) -> usize
 }
 
 // Field 704: key, locked, state and, where there is one, hash.
-fn put_root(out: &mut [u8], at: usize, s: &[u8], root: RootOfTrust) -> usize
-    ensures { PutsRoot out.old at s.now root out.new result }
+fn put_root(out: &mut [u8], at: usize, s: &[u8], root: &RootOfTrust) -> usize
+    ensures { PutsRoot out.old at s.now root.now out.new result }
 {
     let p = put_part(out, at, s, root.key);
     let q = put_state(out, p, root.locked, root.state);
@@ -191,19 +173,17 @@ fn put_octets(out: &mut [u8], at: usize, word: &[u8], s: &[u8], part: Part) -> u
 }
 
 // The value of a row of a list, by its kind.
-fn put_value(out: &mut [u8], at: usize, s: &[u8], l: FieldList, place: usize, row: Row) -> usize
+fn put_value(out: &mut [u8], at: usize, s: &[u8], l: &FieldList, place: usize, row: Row) -> usize
     requires { place < row_count }
-    ensures { PutsValue out.old at s.now l place row out.new result }
+    ensures { PutsValue out.old at s.now l.now place row out.new result }
 {
-    let kind = row.kind;
-    match kind {
+    match row.kind {
         Kind::Set => put_set(
             out,
             at,
-            set_of(row.number, l.purpose, l.digest, l.padding, l.mgf),
+            &set_of(row.number, l.purpose, l.digest, l.padding, l.mgf),
         ),
-        Kind::Number32 => put_decimal(out, at, l.values[place]),
-        Kind::Number64 => put_decimal(out, at, l.values[place]),
+        Kind::Number32 | Kind::Number64 => put_decimal(out, at, l.values[place]),
         Kind::Null => put_text(out, at, b"yes"),
         Kind::Octets => put_part(
             out,
@@ -214,14 +194,14 @@ fn put_value(out: &mut [u8], at: usize, s: &[u8], l: FieldList, place: usize, ro
                 len: l.sizes[place] as usize,
             },
         ),
-        Kind::Root => put_root(out, at, s, l.root),
+        Kind::Root => put_root(out, at, s, &l.root),
     }
 }
 
 // The line of a present row, after its list's word.
-fn put_field(out: &mut [u8], at: usize, word: &[u8], s: &[u8], l: FieldList, place: usize) -> usize
+fn put_field(out: &mut [u8], at: usize, word: &[u8], s: &[u8], l: &FieldList, place: usize) -> usize
     requires { (length word.now ≤ 9) × (place < row_count) }
-    ensures { PutsField out.old at word.now s.now l place out.new result }
+    ensures { PutsField out.old at word.now s.now l.now place out.new result }
 {
     let row = schema::row_at(place);
     let p = put_named(out, at, word, row.number as u64);
@@ -231,38 +211,28 @@ fn put_field(out: &mut [u8], at: usize, word: &[u8], s: &[u8], l: FieldList, pla
 }
 
 // The lines of a list's present fields, each after the list's word.
-fn put_list(out: &mut [u8], at: usize, word: &[u8], s: &[u8], l: FieldList) -> usize
+fn put_list(out: &mut [u8], at: usize, word: &[u8], s: &[u8], l: &FieldList) -> usize
     requires { length word.now ≤ 9 }
-    ensures { PutsList out.old at word.now s.now l out.new result }
+    ensures { PutsList out.old at word.now s.now l.now out.new result }
 {
     let mut p = at;
-    let mut place: usize = 0;
-    while place < ROWS {
+    for place in 0..ROWS {
         if l.present[place] {
             p = put_field(out, p, word, s, l, place);
-            place += 1;
-        } else {
-            place += 1;
         }
     }
     p
 }
 
 // The lines before the fields.
-fn put_head(
-    out: &mut [u8],
-    at: usize,
-    s: &[u8],
-    attestation: Security,
-    keymint: Security,
-    challenge: Part,
-    unique: Part,
-) -> usize
-    ensures { PutsHead out.old at s.now attestation keymint challenge unique out.new result }
+fn put_head(out: &mut [u8], s: &[u8], r: &Record) -> usize
+    ensures { PutsHead out.old 0 s.now r.now.attestation r.now.keymint r.now.challenge r.now.unique out.new result }
 {
+    let attestation = r.attestation;
+    let keymint = r.keymint;
     let p = put_numbers(
         out,
-        at,
+        0,
         b"version ",
         attestation.version as u64,
         b" level ",
@@ -276,8 +246,8 @@ fn put_head(
         b" level ",
         keymint.level as u64,
     );
-    let e = put_octets(out, q, b"challenge ", s, challenge);
-    put_octets(out, e, b"unique ", s, unique)
+    let e = put_octets(out, q, b"challenge ", s, r.challenge);
+    put_octets(out, e, b"unique ", s, r.unique)
 }
 
 // The last line: how many elements.
@@ -289,45 +259,47 @@ fn put_count(out: &mut [u8], at: usize, count: usize) -> usize
 }
 
 // All the lines of a record.
-fn put_record(out: &mut [u8], s: &[u8], r: Record, count: usize) -> usize
-    ensures { PutsRecord out.old s.now r count out.new result }
+fn put_record(out: &mut [u8], s: &[u8], r: &Record, count: usize) -> usize
+    ensures { PutsRecord out.old s.now r.now count out.new result }
 {
-    let p = put_head(out, 0, s, r.attestation, r.keymint, r.challenge, r.unique);
-    let q = put_list(out, p, b"software ", s, r.software);
-    let e = put_list(out, q, b"hardware ", s, r.hardware);
+    let p = put_head(out, s, r);
+    let q = put_list(out, p, b"software ", s, &r.software);
+    let e = put_list(out, q, b"hardware ", s, &r.hardware);
     put_count(out, e, count)
 }
 
-// How long the text is that now stands at the front of the output; or the output is too short, and is as it was.
-#[derive(Clone, Copy)]
-pub enum Listed {
-    Wrote(usize),
-    Short,
-}
+// What an output must have for a record: so much, and so much for each octet that its parts lie in; and for a refusal.
+const RECORD_ROOM: usize = 32_768;
 
-// Lists a record whose octet parts lie in s, of an extension of count elements. Parts are cut at the end of s, and sets
-// at their 16 slots. The output must have 32,768 octets and 56 for each of s, which is enough for any record.
-pub fn list_record(r: Record, count: usize, s: &[u8], out: &mut [u8]) -> Listed
+const OCTET_ROOM: usize = 56;
+
+const REFUSAL_ROOM: usize = 64;
+
+// Lists a record whose octet parts lie in s, of an extension of count elements, and says how long the text is that now
+// stands at the front of the output. Parts are cut at the end of s, and sets at their 16 slots. The output must have 32,768
+// octets and 56 for each of s, which is enough for any record; a shorter one is refused, and is as it was.
+pub fn list_record(r: Record, count: usize, s: &[u8], out: &mut [u8]) -> Result<usize, Refused>
     ensures answer { of_listed result ≡ record_listed r count s.now out.old }
     ensures output { out.new ≡ record_left r count s.now out.old }
 {
     let room = out.len();
-    if room < 32768 {
-        return Listed::Short;
+    if room < RECORD_ROOM {
+        return Err(Refused(Refusal::OutputShort, 0));
     }
-    if (room - 32768) / 56 < s.len() {
-        return Listed::Short;
+    if (room - RECORD_ROOM) / OCTET_ROOM < s.len() {
+        return Err(Refused(Refusal::OutputShort, 0));
     }
-    Listed::Wrote(put_record(out, s, r, count))
+    Ok(put_record(out, s, &r, count))
 }
 
-// Lists a refusal. The output must have 64 octets.
-pub fn list_refusal(number: u8, place: usize, out: &mut [u8]) -> Listed
+// Lists a refusal. The output must have 64 octets. The number is a u8 and no Refusal: any number is listed, and a narrower
+// type would ask more of callers.
+pub fn list_refusal(number: u8, place: usize, out: &mut [u8]) -> Result<usize, Refused>
     ensures answer { of_listed result ≡ refusal_listed number place out.old }
     ensures output { out.new ≡ refusal_left number place out.old }
 {
-    if out.len() < 64 {
-        return Listed::Short;
+    if out.len() < REFUSAL_ROOM {
+        return Err(Refused(Refusal::OutputShort, 0));
     }
-    Listed::Wrote(put_numbers(out, 0, b"refused ", number as u64, b" at ", place as u64))
+    Ok(put_numbers(out, 0, b"refused ", number as u64, b" at ", place as u64))
 }

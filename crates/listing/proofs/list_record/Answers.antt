@@ -8,13 +8,13 @@ use Rattle.listing.specs.Text.{content_text}
 use Rattle.listing.specs.Room.{needed}
 use Rattle.listing.proofs.list_record.Goals as goal
 
-pub returns-then-room-lt32768-clause-answer : goal.returns-then-room-lt32768-clause-answer
-returns-then-room-lt32768-clause-answer c =
+pub returns-then-room-lt-RECORD_ROOM-clause-answer : goal.returns-then-room-lt-RECORD_ROOM-clause-answer
+returns-then-room-lt-RECORD_ROOM-clause-answer c =
     let a = c.args in
     (short a.out.now (content_text (content_of a.r a.s.now) a.count) (needed (length a.s.now)) (omega arith)).0
 
-pub returns-then-room-lt32768-clause-output : goal.returns-then-room-lt32768-clause-output
-returns-then-room-lt32768-clause-output c =
+pub returns-then-room-lt-RECORD_ROOM-clause-output : goal.returns-then-room-lt-RECORD_ROOM-clause-output
+returns-then-room-lt-RECORD_ROOM-clause-output c =
     let a = c.args in
     (short a.out.now (content_text (content_of a.r a.s.now) a.count) (needed (length a.s.now)) (omega arith)).1
 
@@ -31,9 +31,9 @@ returns-then-room-s-clause-output c =
 pub returns-clause-answer : goal.returns-clause-answer
 returns-clause-answer c =
     let a = c.args in
-    (wrote a.out.now (content_text (content_of a.r a.s.now) a.count) (needed (length a.s.now)) (omega (arith, c.if-room-s.false, c.if-room-lt32768.false)) c.put_record.ensures).0
+    (wrote a.out.now (content_text (content_of a.r a.s.now) a.count) (needed (length a.s.now)) (omega (arith, c.if-room-s.false, c.if-room-lt-RECORD_ROOM.false)) c.put_record.ensures).0
 
 pub returns-clause-output : goal.returns-clause-output
 returns-clause-output c =
     let a = c.args in
-    (wrote a.out.now (content_text (content_of a.r a.s.now) a.count) (needed (length a.s.now)) (omega (arith, c.if-room-s.false, c.if-room-lt32768.false)) c.put_record.ensures).1
+    (wrote a.out.now (content_text (content_of a.r a.s.now) a.count) (needed (length a.s.now)) (omega (arith, c.if-room-s.false, c.if-room-lt-RECORD_ROOM.false)) c.put_record.ensures).1

@@ -1,15 +1,16 @@
--- `put_part` meets its contract: one law of `Writes` for each way in which a part can lie in the bytes. Assumes nothing.
-use Rattle.listing.proofs.Writes.{part_none, part_zero, part-rest, part-whole}
+-- `put_part` meets its contract: the octets that there are, or a dash where there are none. Assumes nothing.
+use Rattle.std.proofs.Common.{rules, tests}
+use Rattle.listing.proofs.Writes.{part_cut, part_none, part_some}
 use Rattle.listing.proofs.put_part.Goals as goal
 
-pub returns-then-n-start : goal.returns-then-n-start
-returns-then-n-start c = search part_none
-
-pub returns-then-len-eq0 : goal.returns-then-len-eq0
-returns-then-len-eq0 c = search part_zero
-
-pub returns-then-n-start-2 : goal.returns-then-n-start-2
-returns-then-n-start-2 c = search part-rest
+pub returns-then-is_empty : goal.returns-then-is_empty
+returns-then-is_empty c =
+    let s = c.args.s.now in
+    let part = c.args.part in
+    part_none s _ part.start part.len (part_cut s part.start part.len c.min.ensures c.min-2.ensures) (search (rules, tests)) c.put_none.ensures
 
 pub returns : goal.returns
-returns c = search part-whole
+returns c =
+    let s = c.args.s.now in
+    let part = c.args.part in
+    part_some s _ part.start part.len (part_cut s part.start part.len c.min.ensures c.min-2.ensures) (search (rules, tests)) c.put_hex.ensures

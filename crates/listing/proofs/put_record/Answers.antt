@@ -6,4 +6,4 @@ use Rattle.listing.proofs.put_record.Goals as goal
 pub returns : goal.returns
 returns c =
     let a = c.args in
-    record_put (content_of a.r a.s.now) a.count a.s.now c.put_head-p.ensures c.put_list-q.ensures c.put_list-e.ensures c.put_count.ensures
+    record_put (content_of a.r.now a.s.now) a.count a.s.now c.put_head-p.ensures c.put_list-q.ensures c.put_list-e.ensures c.put_count.ensures

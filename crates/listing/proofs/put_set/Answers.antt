@@ -1,10 +1,10 @@
 -- `put_set` meets its contract: a dash, or the first member and then the others. Assumes nothing.
-use borrow.Author.Rules.{length_unmapped}
+use borrow.Author.Rules.{rules}
 use Rattle.listing.proofs.Writes.{set-none, set_some}
 use Rattle.listing.proofs.put_set.Goals as goal
 
-pub returns-then-g-eq0 : goal.returns-then-g-eq0
-returns-then-g-eq0 c = search set-none
+pub returns-in-None : goal.returns-in-None
+returns-in-None c = set-none c.args.g.now (search rules) c.min.ensures c.in-None.ensures.cases c.put_none.ensures
 
-pub returns : goal.returns
-returns c = search (set_some, length_unmapped)
+pub returns-in-Some : goal.returns-in-Some
+returns-in-Some c = set_some c.args.g.now c.in-Some.first.now c.in-Some.more.now (search rules) c.min.ensures c.in-Some.ensures.cases.0 c.put_decimal-p.ensures c.put_more.ensures

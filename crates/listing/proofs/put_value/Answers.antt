@@ -1,15 +1,12 @@
 -- `put_value` meets its contract: one law of `Writes` for each kind. Assumes nothing.
-use Rattle.listing.proofs.Writes.{value_set, value_number32, value_number64, value_null, value-octets, value-root}
+use Rattle.listing.proofs.Writes.{value_set, value_number, value_null, value-octets, value-root}
 use Rattle.listing.proofs.put_value.Goals as goal
 
 pub returns-in-Set : goal.returns-in-Set
 returns-in-Set c = search value_set
 
 pub returns-in-Number32 : goal.returns-in-Number32
-returns-in-Number32 c = search value_number32
-
-pub returns-in-Number64 : goal.returns-in-Number64
-returns-in-Number64 c = search value_number64
+returns-in-Number32 c = value_number _ _ _ _ _ c.in-Number32.is c.put_decimal.ensures
 
 pub returns-in-Null : goal.returns-in-Null
 returns-in-Null c = search value_null
