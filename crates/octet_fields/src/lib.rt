@@ -35,14 +35,11 @@ fn ask_list(l: &FieldList, number: usize, len: usize) -> Result<Option<Part>, Re
     }
     match schema::row_at(k).kind {
         Kind::Octets => {
-            let start = l.values[k] as usize;
-            ask_part(
-                Part {
-                    start,
-                    len: l.sizes[k] as usize,
-                },
-                len,
-            )
+            let part = Part {
+                start: l.values[k] as usize,
+                len: l.sizes[k] as usize,
+            };
+            ask_part(part, len)
         }
         _ => Ok(None),
     }
