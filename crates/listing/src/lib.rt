@@ -1,15 +1,15 @@
 // The listing of a record or a refusal as text (document 01, "One extension, whole"), put into a lent output.
 //
-// Each put function writes its text from a place on, nothing past the output's end, and answers the next place. Its
-// contract, PutsText or one that specs/Lines.antt names, also bounds the text's length, so that list_record knows without
-// counting when all of it fits.
+// Each method of Text writes its text from the text's place on, nothing past the output's end. Its contract, Puts or one
+// that specs/Lines.antt names, also bounds the text's length, so that list_record knows without counting when all of it
+// fits; and it says that the output is the one that was lent.
 #![tactic(auto)]
 
 ghost use Rattle.std.specs.Prelude.{◌≡◌, [], ◌∷◌, ◌+◌, ◌*◌, ◌<◌, ◌≤◌, length};
 ghost use Rattle.schema.specs.Table.{row_count};
 ghost use Rattle.records.specs.Content.{part_of, members_of};
 ghost use Rattle.listing.specs.Text.{dash, decimal, hex_digit, hex_text, octets_text, more_numbers, numbers_text, locked_text, state_text, named, count_line};
-ghost use Rattle.listing.specs.Put.{PutsText};
+ghost use Rattle.listing.specs.Put.{Puts};
 ghost use Rattle.listing.specs.Room.{of_listed};
 ghost use Rattle.listing.specs.Lines.{PutsNumbers, PutsOctets, PutsRoot, PutsValue, PutsField, PutsList, PutsHead, PutsRecord, record_listed, record_left, refusal_listed, refusal_left};
 
@@ -18,37 +18,249 @@ use records::{FieldList, NumberSet, Part, Record, RootOfTrust};
 use schema::{Kind, ROWS, Row};
 use shape::set_of;
 
-// One octet at at, unless that is past the end; the next place.
-fn put_octet(out: &mut [u8], at: usize, b: u8) -> usize
-    ensures { PutsText out.old at (b ∷ []) 1 out.new result }
-{
-    if at < out.len() {
-        out[at] = b;
-        return at + 1;
-    }
-    at
+// Text that is put into a lent output, and the place where the next octet of it goes.
+#[derive(Drop)]
+struct Text<'a> {
+    out: &'a mut [u8],
+    at: usize,
 }
 
-// All of text.
-fn put_text(out: &mut [u8], at: usize, text: &[u8]) -> usize
-    ensures { PutsText out.old at text.now (length text.now) out.new result }
-{
-    let mut p = at;
-    for b in text {
-        p = put_octet(out, p, *b);
+impl Text<'_> {
+    // One octet, unless the output is full.
+    fn octet(&mut self, b: u8)
+        ensures kept { self.new.out.ghost_name ≡ self.old.out.ghost_name }
+        ensures puts { Puts self.old (b ∷ []) 1 self.new }
+    {
+        if self.at < self.out.len() {
+            self.out[self.at] = b;
+            self.at += 1;
+        }
     }
-    p
-}
 
-// A number in decimal.
-fn put_decimal(out: &mut [u8], at: usize, n: u64) -> usize
-    ensures { PutsText out.old at (decimal n) 20 out.new result }
-{
-    if n < 10 {
-        return put_octet(out, at, b'0' + n as u8);
+    // All of text.
+    fn text(&mut self, text: &[u8])
+        ensures kept { self.new.out.ghost_name ≡ self.old.out.ghost_name }
+        ensures puts { Puts self.old text.now (length text.now) self.new }
+    {
+        for b in text {
+            self.octet(*b);
+        }
     }
-    let p = put_decimal(out, at, n / 10);
-    put_octet(out, p, b'0' + (n % 10) as u8)
+
+    // A number in decimal.
+    fn decimal(&mut self, n: u64)
+        ensures kept { self.new.out.ghost_name ≡ self.old.out.ghost_name }
+        ensures puts { Puts self.old (decimal n) 20 self.new }
+    {
+        if n < 10 {
+            self.octet(b'0' + n as u8);
+        } else {
+            self.decimal(n / 10);
+            self.octet(b'0' + (n % 10) as u8);
+        }
+    }
+
+    // Octets as lower-case hex.
+    fn hex(&mut self, s: &[u8])
+        ensures kept { self.new.out.ghost_name ≡ self.old.out.ghost_name }
+        ensures puts { Puts self.old (hex_text s.now) (2 * length s.now) self.new }
+    {
+        for b in s {
+            self.octet(hex_digit(*b / 16));
+            self.octet(hex_digit(*b % 16));
+        }
+    }
+
+    // What stands for empty octets or an empty set.
+    fn none(&mut self)
+        ensures kept { self.new.out.ghost_name ≡ self.old.out.ghost_name }
+        ensures puts { Puts self.old dash 1 self.new }
+    {
+        self.text(b"-");
+    }
+
+    // A part of s, "-" where it has no octets. What lies outside s is left out.
+    fn part(&mut self, s: &[u8], part: Part)
+        ensures kept { self.new.out.ghost_name ≡ self.old.out.ghost_name }
+        ensures puts { Puts self.old (octets_text (part_of s.now part)) (2 * length s.now + 1) self.new }
+    {
+        let rest = &s[part.start.min(s.len())..];
+        let octets = &rest[..part.len.min(rest.len())];
+        if octets.is_empty() {
+            self.none();
+        } else {
+            self.hex(octets);
+        }
+    }
+
+    // Numbers, each after a space.
+    fn more(&mut self, numbers: &[u32])
+        ensures kept { self.new.out.ghost_name ≡ self.old.out.ghost_name }
+        ensures puts { Puts self.old (more_numbers numbers.now) (21 * length numbers.now) self.new }
+    {
+        for n in numbers {
+            self.octet(b' ');
+            self.decimal(*n as u64);
+        }
+    }
+
+    // The members of a set, as many as its count and its slots allow, "-" where it has none.
+    fn set(&mut self, g: &NumberSet)
+        ensures kept { self.new.out.ghost_name ≡ self.old.out.ghost_name }
+        ensures puts { Puts self.old (numbers_text (members_of g.now)) 335 self.new }
+    {
+        let members = &g.members[..g.count.min(16)];
+        match members.split_first() {
+            None => self.none(),
+            Some((first, more)) => {
+                self.decimal(*first as u64);
+                self.more(more);
+            }
+        }
+    }
+
+    // A root of trust's locked and state, each after a space.
+    fn state(&mut self, locked: bool, state: u32)
+        ensures kept { self.new.out.ghost_name ≡ self.old.out.ghost_name }
+        ensures puts { Puts self.old (state_text locked state) 23 self.new }
+    {
+        self.octet(b' ');
+        self.octet(locked_digit(locked));
+        self.octet(b' ');
+        self.decimal(state as u64);
+    }
+
+    // Field 704: key, locked, state and, where there is one, hash.
+    fn root(&mut self, s: &[u8], root: &RootOfTrust)
+        ensures kept { self.new.out.ghost_name ≡ self.old.out.ghost_name }
+        ensures puts { PutsRoot self.old s.now root.now self.new }
+    {
+        self.part(s, root.key);
+        self.state(root.locked, root.state);
+        if root.hashed {
+            self.octet(b' ');
+            self.part(s, root.hash);
+        }
+    }
+
+    // A number after its word.
+    fn named(&mut self, word: &[u8], n: u64)
+        ensures kept { self.new.out.ghost_name ≡ self.old.out.ghost_name }
+        ensures puts { Puts self.old (named word.now n) (length word.now + 20) self.new }
+    {
+        self.text(word);
+        self.decimal(n);
+    }
+
+    // A line of two numbers, each after its word.
+    fn numbers(&mut self, first: &[u8], a: u64, second: &[u8], b: u64)
+        ensures kept { self.new.out.ghost_name ≡ self.old.out.ghost_name }
+        ensures puts { PutsNumbers self.old first.now a second.now b self.new }
+    {
+        self.named(first, a);
+        self.named(second, b);
+        self.octet(b'\n');
+    }
+
+    // A line of a part of s, after its word.
+    fn octets(&mut self, word: &[u8], s: &[u8], part: Part)
+        ensures kept { self.new.out.ghost_name ≡ self.old.out.ghost_name }
+        ensures puts { PutsOctets self.old word.now s.now part self.new }
+    {
+        self.text(word);
+        self.part(s, part);
+        self.octet(b'\n');
+    }
+
+    // The value of a row of a list, by its kind.
+    fn value(&mut self, s: &[u8], l: &FieldList, place: usize, row: Row)
+        requires { place < row_count }
+        ensures kept { self.new.out.ghost_name ≡ self.old.out.ghost_name }
+        ensures puts { PutsValue self.old s.now l.now place row self.new }
+    {
+        match row.kind {
+            Kind::Set => self.set(&set_of(row.number, l.purpose, l.digest, l.padding, l.mgf)),
+            Kind::Number32 | Kind::Number64 => self.decimal(l.values[place]),
+            Kind::Null => self.text(b"yes"),
+            Kind::Octets => {
+                let part = Part {
+                    start: l.values[place] as usize,
+                    len: l.sizes[place] as usize,
+                };
+                self.part(s, part);
+            }
+            Kind::Root => self.root(s, &l.root),
+        }
+    }
+
+    // The line of a present row, after its list's word.
+    fn field(&mut self, word: &[u8], s: &[u8], l: &FieldList, place: usize)
+        requires { (length word.now ≤ 9) × (place < row_count) }
+        ensures kept { self.new.out.ghost_name ≡ self.old.out.ghost_name }
+        ensures puts { PutsField self.old word.now s.now l.now place self.new }
+    {
+        let row = schema::row_at(place);
+        self.named(word, row.number as u64);
+        self.octet(b' ');
+        self.value(s, l, place, row);
+        self.octet(b'\n');
+    }
+
+    // The lines of a list's present fields, each after the list's word.
+    fn list(&mut self, word: &[u8], s: &[u8], l: &FieldList)
+        requires { length word.now ≤ 9 }
+        ensures kept { self.new.out.ghost_name ≡ self.old.out.ghost_name }
+        ensures puts { PutsList self.old word.now s.now l.now self.new }
+    {
+        for place in 0..ROWS {
+            if l.present[place] {
+                self.field(word, s, l, place);
+            }
+        }
+    }
+
+    // The lines before the fields.
+    fn head(&mut self, s: &[u8], r: &Record)
+        ensures kept { self.new.out.ghost_name ≡ self.old.out.ghost_name }
+        ensures puts { PutsHead self.old s.now r.now.attestation r.now.keymint r.now.challenge r.now.unique self.new }
+    {
+        let attestation = r.attestation;
+        let keymint = r.keymint;
+        self.numbers(
+            b"version ",
+            attestation.version as u64,
+            b" level ",
+            attestation.level as u64,
+        );
+        self.numbers(
+            b"keymint ",
+            keymint.version as u64,
+            b" level ",
+            keymint.level as u64,
+        );
+        self.octets(b"challenge ", s, r.challenge);
+        self.octets(b"unique ", s, r.unique);
+    }
+
+    // The last line: how many elements.
+    fn count(&mut self, count: usize)
+        ensures kept { self.new.out.ghost_name ≡ self.old.out.ghost_name }
+        ensures puts { Puts self.old (count_line count) 30 self.new }
+    {
+        self.named(b"elements ", count as u64);
+        self.octet(b'\n');
+    }
+
+    // All the lines of a record.
+    fn whole_record(&mut self, s: &[u8], r: &Record, count: usize)
+        ensures kept { self.new.out.ghost_name ≡ self.old.out.ghost_name }
+        ensures puts { PutsRecord self.old s.now r.now count self.new }
+    {
+        self.head(s, r);
+        self.list(b"software ", s, &r.software);
+        self.list(b"hardware ", s, &r.hardware);
+        self.count(count);
+    }
 }
 
 // A digit of lower-case hex; 87 + 10 is 'a'.
@@ -59,213 +271,11 @@ fn hex_digit(n: u8) -> u8
     if n < 10 { b'0' + n } else { 87 + n }
 }
 
-// Octets as lower-case hex.
-fn put_hex(out: &mut [u8], at: usize, s: &[u8]) -> usize
-    ensures { PutsText out.old at (hex_text s.now) (2 * length s.now) out.new result }
-{
-    let mut p = at;
-    for b in s {
-        p = put_octet(out, p, hex_digit(*b / 16));
-        p = put_octet(out, p, hex_digit(*b % 16));
-    }
-    p
-}
-
-// What stands for empty octets or an empty set.
-fn put_none(out: &mut [u8], at: usize) -> usize
-    ensures { PutsText out.old at dash 1 out.new result }
-{
-    put_text(out, at, b"-")
-}
-
-// A part of s, "-" where it has no octets. What lies outside s is left out.
-fn put_part(out: &mut [u8], at: usize, s: &[u8], part: Part) -> usize
-    ensures { PutsText out.old at (octets_text (part_of s.now part)) (2 * length s.now + 1) out.new result }
-{
-    let rest = &s[part.start.min(s.len())..];
-    let octets = &rest[..part.len.min(rest.len())];
-    if octets.is_empty() {
-        return put_none(out, at);
-    }
-    put_hex(out, at, octets)
-}
-
-// Numbers, each after a space.
-fn put_more(out: &mut [u8], at: usize, numbers: &[u32]) -> usize
-    ensures { PutsText out.old at (more_numbers numbers.now) (21 * length numbers.now) out.new result }
-{
-    let mut p = at;
-    for n in numbers {
-        p = put_octet(out, p, b' ');
-        p = put_decimal(out, p, *n as u64);
-    }
-    p
-}
-
-// The members of a set, as many as its count and its slots allow, "-" where it has none.
-fn put_set(out: &mut [u8], at: usize, g: &NumberSet) -> usize
-    ensures { PutsText out.old at (numbers_text (members_of g.now)) 335 out.new result }
-{
-    let members = &g.members[..g.count.min(16)];
-    match members.split_first() {
-        None => put_none(out, at),
-        Some((first, more)) => {
-            let p = put_decimal(out, at, *first as u64);
-            put_more(out, p, more)
-        }
-    }
-}
-
 // "locked 0 or 1".
 fn locked_digit(locked: bool) -> u8
     ensures { (result ∷ []) ≡ locked_text locked }
 {
     if locked { b'1' } else { b'0' }
-}
-
-// A root of trust's locked and state, each after a space.
-fn put_state(out: &mut [u8], at: usize, locked: bool, state: u32) -> usize
-    ensures { PutsText out.old at (state_text locked state) 23 out.new result }
-{
-    let p = put_octet(out, at, b' ');
-    let q = put_octet(out, p, locked_digit(locked));
-    let p2 = put_octet(out, q, b' ');
-    put_decimal(out, p2, state as u64)
-}
-
-// Field 704: key, locked, state and, where there is one, hash.
-fn put_root(out: &mut [u8], at: usize, s: &[u8], root: &RootOfTrust) -> usize
-    ensures { PutsRoot out.old at s.now root.now out.new result }
-{
-    let p = put_part(out, at, s, root.key);
-    let q = put_state(out, p, root.locked, root.state);
-    if root.hashed {
-        let p2 = put_octet(out, q, b' ');
-        return put_part(out, p2, s, root.hash);
-    }
-    q
-}
-
-// A number after its word.
-fn put_named(out: &mut [u8], at: usize, word: &[u8], n: u64) -> usize
-    ensures { PutsText out.old at (named word.now n) (length word.now + 20) out.new result }
-{
-    let p = put_text(out, at, word);
-    put_decimal(out, p, n)
-}
-
-// A line of two numbers, each after its word.
-fn put_numbers(out: &mut [u8], at: usize, first: &[u8], a: u64, second: &[u8], b: u64) -> usize
-    ensures { PutsNumbers out.old at first.now a second.now b out.new result }
-{
-    let p = put_named(out, at, first, a);
-    let q = put_named(out, p, second, b);
-    put_octet(out, q, b'\n')
-}
-
-// A line of a part of s, after its word.
-fn put_octets(out: &mut [u8], at: usize, word: &[u8], s: &[u8], part: Part) -> usize
-    ensures { PutsOctets out.old at word.now s.now part out.new result }
-{
-    let p = put_text(out, at, word);
-    let q = put_part(out, p, s, part);
-    put_octet(out, q, b'\n')
-}
-
-// The value of a row of a list, by its kind.
-fn put_value(out: &mut [u8], at: usize, s: &[u8], l: &FieldList, place: usize, row: Row) -> usize
-    requires { place < row_count }
-    ensures { PutsValue out.old at s.now l.now place row out.new result }
-{
-    match row.kind {
-        Kind::Set => put_set(
-            out,
-            at,
-            &set_of(row.number, l.purpose, l.digest, l.padding, l.mgf),
-        ),
-        Kind::Number32 | Kind::Number64 => put_decimal(out, at, l.values[place]),
-        Kind::Null => put_text(out, at, b"yes"),
-        Kind::Octets => put_part(
-            out,
-            at,
-            s,
-            Part {
-                start: l.values[place] as usize,
-                len: l.sizes[place] as usize,
-            },
-        ),
-        Kind::Root => put_root(out, at, s, &l.root),
-    }
-}
-
-// The line of a present row, after its list's word.
-fn put_field(out: &mut [u8], at: usize, word: &[u8], s: &[u8], l: &FieldList, place: usize) -> usize
-    requires { (length word.now ≤ 9) × (place < row_count) }
-    ensures { PutsField out.old at word.now s.now l.now place out.new result }
-{
-    let row = schema::row_at(place);
-    let p = put_named(out, at, word, row.number as u64);
-    let q = put_octet(out, p, b' ');
-    let e = put_value(out, q, s, l, place, row);
-    put_octet(out, e, b'\n')
-}
-
-// The lines of a list's present fields, each after the list's word.
-fn put_list(out: &mut [u8], at: usize, word: &[u8], s: &[u8], l: &FieldList) -> usize
-    requires { length word.now ≤ 9 }
-    ensures { PutsList out.old at word.now s.now l.now out.new result }
-{
-    let mut p = at;
-    for place in 0..ROWS {
-        if l.present[place] {
-            p = put_field(out, p, word, s, l, place);
-        }
-    }
-    p
-}
-
-// The lines before the fields.
-fn put_head(out: &mut [u8], s: &[u8], r: &Record) -> usize
-    ensures { PutsHead out.old 0 s.now r.now.attestation r.now.keymint r.now.challenge r.now.unique out.new result }
-{
-    let attestation = r.attestation;
-    let keymint = r.keymint;
-    let p = put_numbers(
-        out,
-        0,
-        b"version ",
-        attestation.version as u64,
-        b" level ",
-        attestation.level as u64,
-    );
-    let q = put_numbers(
-        out,
-        p,
-        b"keymint ",
-        keymint.version as u64,
-        b" level ",
-        keymint.level as u64,
-    );
-    let e = put_octets(out, q, b"challenge ", s, r.challenge);
-    put_octets(out, e, b"unique ", s, r.unique)
-}
-
-// The last line: how many elements.
-fn put_count(out: &mut [u8], at: usize, count: usize) -> usize
-    ensures { PutsText out.old at (count_line count) 30 out.new result }
-{
-    let p = put_named(out, at, b"elements ", count as u64);
-    put_octet(out, p, b'\n')
-}
-
-// All the lines of a record.
-fn put_record(out: &mut [u8], s: &[u8], r: &Record, count: usize) -> usize
-    ensures { PutsRecord out.old s.now r.now count out.new result }
-{
-    let p = put_head(out, s, r);
-    let q = put_list(out, p, b"software ", s, &r.software);
-    let e = put_list(out, q, b"hardware ", s, &r.hardware);
-    put_count(out, e, count)
 }
 
 // What an output must have for a record: so much, and so much for each octet that its parts lie in; and for a refusal.
@@ -289,7 +299,9 @@ pub fn list_record(r: Record, count: usize, s: &[u8], out: &mut [u8]) -> Result<
     if (room - RECORD_ROOM) / OCTET_ROOM < s.len() {
         return Err(Refused(Refusal::OutputShort, 0));
     }
-    Ok(put_record(out, s, &r, count))
+    let mut text = Text { out, at: 0 };
+    text.whole_record(s, &r, count);
+    Ok(text.at)
 }
 
 // Lists a refusal. The output must have 64 octets. The number is a u8 and no Refusal: any number is listed, and a narrower
@@ -301,5 +313,7 @@ pub fn list_refusal(number: u8, place: usize, out: &mut [u8]) -> Result<usize, R
     if out.len() < REFUSAL_ROOM {
         return Err(Refused(Refusal::OutputShort, 0));
     }
-    Ok(put_numbers(out, 0, b"refused ", number as u64, b" at ", place as u64))
+    let mut text = Text { out, at: 0 };
+    text.numbers(b"refused ", number as u64, b" at ", place as u64);
+    Ok(text.at)
 }

@@ -1,5 +1,8 @@
 -- `list_record` meets its contract: an output with the room for any record has it for this one, so all of its text stands
 -- there; a shorter one is not touched. Assumes nothing.
+use mathlib.Core.Path.{◌≡◌}
+use borrow.Author.Rules.{rules}
+use Rattle.listing.specs.Lines.{record_left}
 use native.Mathlib.Omega.{arith}
 use lib.ListN.{length}
 use Rattle.records.specs.Content.{content_of}
@@ -31,9 +34,11 @@ returns-then-room-s-clause-output c =
 pub returns-clause-answer : goal.returns-clause-answer
 returns-clause-answer c =
     let a = c.args in
-    (wrote a.out.now (content_text (content_of a.r a.s.now) a.count) (needed (length a.s.now)) (omega (arith, c.if-room-s.false, c.if-room-lt-RECORD_ROOM.false)) c.put_record.ensures).0
+    (wrote a.out.now (content_text (content_of a.r a.s.now) a.count) (needed (length a.s.now)) (omega (arith, c.if-room-s.false, c.if-room-lt-RECORD_ROOM.false)) c.whole_record.ensures.puts).0
 
 pub returns-clause-output : goal.returns-clause-output
 returns-clause-output c =
     let a = c.args in
-    (wrote a.out.now (content_text (content_of a.r a.s.now) a.count) (needed (length a.s.now)) (omega (arith, c.if-room-s.false, c.if-room-lt-RECORD_ROOM.false)) c.put_record.ensures).1
+    let e : c.whole_record.new.self.out.now ≡ record_left a.r a.count a.s.now a.out.now =
+    (wrote a.out.now (content_text (content_of a.r a.s.now) a.count) (needed (length a.s.now)) (omega (arith, c.if-room-s.false, c.if-room-lt-RECORD_ROOM.false)) c.whole_record.ensures.puts).1 in
+    search rules

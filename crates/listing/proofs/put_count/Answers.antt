@@ -1,6 +1,0 @@
--- `put_count` meets its contract: the named number and the line's end. Assumes nothing.
-use Rattle.listing.proofs.Writes.{count-put}
-use Rattle.listing.proofs.put_count.Goals as goal
-
-pub returns : goal.returns
-returns c = search count-put

@@ -1,9 +1,0 @@
--- `put_hex` meets its contract. The invariant: the digits of the octets before this one are put. Assumes nothing.
-use Prim.Native.Nat.{◌*◌}
-use lib.ListN.{take}
-use Rattle.listing.specs.Text.{hex_text}
-use Rattle.listing.specs.Put.{PutsText}
-use Rattle.listing.proofs.put_hex.Given as goal
-
-abbrev pub invariant-loop-b : goal.invariant-loop-b
-invariant-loop-b l = PutsText l.initial.out l.at (hex_text (take l.b-index l.s)) (2 * l.b-index) l.out l.p

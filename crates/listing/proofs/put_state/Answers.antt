@@ -1,6 +1,0 @@
--- `put_state` meets its contract: its four pieces are put one after the other. Assumes nothing.
-use Rattle.listing.proofs.Writes.{state-put}
-use Rattle.listing.proofs.put_state.Goals as goal
-
-pub returns : goal.returns
-returns c = search state-put
