@@ -1,15 +1,17 @@
 -- An image's record, or why there is none; and what putting a record's words leaves. Assumes nothing.
-use mathlib.Core.Path.{◌≡◌, refl, ◌∙◌}
+use mathlib.Core.Path.{◌≡◌, refl, sym, ◌∙◌}
 use mathlib.Core.Bool.{Bool, true, false, not}
 use mathlib.Core.List.{List}
 use Prim.Native.Nat.{ℕ, ◌<◌, ◌≤◌}
 use lib.ListN.{length}
 use borrow.Author.Tests.{le-leb, lt-leb, not-true, not-false}
 use Rattle.answer.specs.Answer.{got, refused, guard, pick}
-use Rattle.answer.specs.Refusal.{ill_shaped, short_image}
+use Rattle.std.specs.Prelude.{Result, Ok, Err}
+use Rattle.answer.specs.declared.Refusal.{Refusal}
+use Rattle.answer.specs.Refusal.{number_of, ill_shaped, short_image}
 use Rattle.codec.specs.Octets.{splice}
 use Rattle.records.specs.declared.Record.{Record}
-use Rattle.image.specs.Image.{image_of, record_of, words_fit, record_in, image_put}
+use Rattle.image.specs.Image.{image_of, record_of, words_fit, record_in, of_imaged, image_put}
 
 module _ (w : List ℕ) where
   pub image-short : length w < 410 → refused short_image 0 ≡ record_in w
@@ -24,6 +26,15 @@ module _ (w : List ℕ) where
     pub image-got : not b ≡ false → {r : Record} → r ≡ record_of w → got r ≡ record_in w
     unfolding record_in guard
     image-got t q = rw (q, le-leb 410 (length w) h, ← e, not-false b t) refl
+
+-- ---- what a caller of `record_of` learns from its answer
+
+module _ (w : List ℕ) (i : Result Record Refusal) (e : of_imaged i ≡ record_in w) where
+  pub is-refused : (n : Refusal) → i ≡ Err n → record_in w ≡ refused (number_of n) 0
+  is-refused n h = sym e ∙ rw h refl
+
+  pub is-got : (r : Record) → i ≡ Ok r → record_in w ≡ got r
+  is-got r h = sym e ∙ rw h refl
 
 -- ---- the words put
 
