@@ -17,7 +17,6 @@ use Rattle.schema.specs.Content.{Content}
 use Rattle.listing.specs.Room.{needed, refusal_needed, listed}
 use Rattle.listing.specs.Text.{listing, content_text, refusal_text}
 use Rattle.records.specs.declared.Record.{Record}
-use Rattle.reader.specs.declared.Outcome.{Outcome}
 use Rattle.reader.specs.Reading.{Reads}
 use Rattle.contents.proofs.Spelled.{octets_all}
 use Rattle.schema.proofs.Places.{octets_at_places}
@@ -27,16 +26,16 @@ use Rattle.extension_text.specs.Bytes.{room, listed_as, left_as, ListedWhole}
 use Rattle.codec.specs.Limits.{extension_bytes}
 
 -- the record read, as what it says in the bytes
-abbrev pub said_in : List ℕ → Outcome → Record → Answer (Content × ℕ)
-said_in s (Outcome.Accepted n) r = got (content_of r s, n)
-said_in s (Outcome.Refused k p) r = refused k p
+abbrev pub said_in : List ℕ → Answer ℕ → Record → Answer (Content × ℕ)
+said_in s (got n) r = got (content_of r s, n)
+said_in s (refused k p) r = refused k p
 
-pub said-is : (s : List ℕ) → ((k : ℕ) → Fits w8 (get_or s k 0)) → (o : Outcome) (r : Record) → Reads s o r → said_in s o r ≡ read s
+pub said-is : (s : List ℕ) → ((k : ℕ) → Fits w8 (get_or s k 0)) → (o : Answer ℕ) (r : Record) → Reads s o r → said_in s o r ≡ read s
 unfolding map_answer
-said-is s f (Outcome.Accepted n) r g = sym (places_read r s n (octets_all s f) (sym g.is))
-said-is s f (Outcome.Refused k p) r g = sym (octets_at_places s (octets_all s f) ∙ rw (← g.is) refl)
+said-is s f (got n) r g = sym (places_read r s n (octets_all s f) (sym g.is))
+said-is s f (refused k p) r g = sym (octets_at_places s (octets_all s f) ∙ rw (← g.is) refl)
 
-module _ (s out : List ℕ) (o : Outcome) (g : Record) {a : Answer (Content × ℕ)} (is : said_in s o g ≡ a) where
+module _ (s out : List ℕ) (o : Answer ℕ) (g : Record) {a : Answer (Content × ℕ)} (is : said_in s o g ≡ a) where
   -- the room asked is that of the length of s, and the text that of the answer
   said : {e : Answer ℕ} {b : Answer (Content × ℕ)} → b ≡ a → e ≡ listed_as b (length s) out → e ≡ listed_as a (length s) out
   said {e} p = subst (λ (x : Answer (Content × ℕ)). e ≡ listed_as x (length s) out) p
@@ -44,19 +43,19 @@ module _ (s out : List ℕ) (o : Outcome) (g : Record) {a : Answer (Content × �
   kept : {new : List ℕ} {b : Answer (Content × ℕ)} → b ≡ a → new ≡ left_as b (length s) out → new ≡ left_as a (length s) out
   kept {new} p = subst (λ (x : Answer (Content × ℕ)). new ≡ left_as x (length s) out) p
 
-  told : {u : Outcome} → o ≡ u → said_in s u g ≡ a
-  told w = subst (λ (x : Outcome). said_in s x g ≡ a) w is
+  told : {u : Answer ℕ} → o ≡ u → said_in s u g ≡ a
+  told w = subst (λ (x : Answer ℕ). said_in s x g ≡ a) w is
 
-  pub accepted-lists : {k : ℕ} {e : Answer ℕ} → o ≡ Outcome.Accepted k → e ≡ listed (needed (length s)) out (content_text (content_of g s) k) → e ≡ listed_as a (length s) out
+  pub accepted-lists : {k : ℕ} {e : Answer ℕ} → o ≡ got k → e ≡ listed (needed (length s)) out (content_text (content_of g s) k) → e ≡ listed_as a (length s) out
   accepted-lists w h = said (told w) (unfold listing in h)
 
-  pub accepted-leaves : {k : ℕ} {new : List ℕ} → o ≡ Outcome.Accepted k → new ≡ left (listed (needed (length s)) out (content_text (content_of g s) k)) out 0 (content_text (content_of g s) k) → new ≡ left_as a (length s) out
+  pub accepted-leaves : {k : ℕ} {new : List ℕ} → o ≡ got k → new ≡ left (listed (needed (length s)) out (content_text (content_of g s) k)) out 0 (content_text (content_of g s) k) → new ≡ left_as a (length s) out
   accepted-leaves w h = kept (told w) (unfold listing in h)
 
-  pub refused-lists : {k p : ℕ} {e : Answer ℕ} → o ≡ Outcome.Refused k p → e ≡ listed refusal_needed out (refusal_text k p) → e ≡ listed_as a (length s) out
+  pub refused-lists : {k p : ℕ} {e : Answer ℕ} → o ≡ refused k p → e ≡ listed refusal_needed out (refusal_text k p) → e ≡ listed_as a (length s) out
   refused-lists w h = said (told w) (unfold listing in h)
 
-  pub refused-leaves : {k p : ℕ} {new : List ℕ} → o ≡ Outcome.Refused k p → new ≡ left (listed refusal_needed out (refusal_text k p)) out 0 (refusal_text k p) → new ≡ left_as a (length s) out
+  pub refused-leaves : {k p : ℕ} {new : List ℕ} → o ≡ refused k p → new ≡ left (listed refusal_needed out (refusal_text k p)) out 0 (refusal_text k p) → new ≡ left_as a (length s) out
   refused-leaves w h = kept (told w) (unfold listing in h)
 
 -- ---- how much room is enough

@@ -2,10 +2,9 @@
 use mathlib.Core.Path.{◌≡◌, refl, ap, ◌∙◌}
 use mathlib.Core.List.{List}
 use Prim.Native.Nat.{ℕ}
-use Rattle.answer.specs.Answer.{Answer}
+use Rattle.answer.specs.Answer.{Answer, got}
 use Rattle.records.specs.declared.Record.{Record}
 use Rattle.reader.specs.Reading.{Reads}
-use Rattle.reader.specs.declared.Outcome.{Outcome}
 use Rattle.reader.proofs.Answered.{same_answer}
 use Rattle.ruling.specs.declared.request.Request.{Request}
 use Rattle.ruling.specs.Ruling.{Permit, ruling}
@@ -32,9 +31,9 @@ asking u q = record {
 asks_asking : (u : Use) (q : Request) → Asks u q → q ≡ asking u q
 asks_asking u q a = rw (← a.purpose, ← a.digest, ← a.padding, ← a.clock, ← a.floor) refl
 
-module _ (bs : List ℕ) (n : ℕ) (r : Record) (w : Reads bs (Outcome.Accepted n) r) where
+module _ (bs : List ℕ) (n : ℕ) (r : Record) (w : Reads bs (got n) r) where
   pub ruled_by : (u : Use) (a : Answer Permit) → ((q : Request) → ruling r (asking u q) ≡ a) → Ruled bs u a
   ruled_by u a e = record {
     accepted = (n, r, w);
-    answers = λ o r' q v g. ap (λ (x : Record). ruling x q) (same_answer bs (Outcome.Accepted n) o r r' w v).1 ∙ (ap (ruling r) (asks_asking u q g) ∙ e q);
+    answers = λ o r' q v g. ap (λ (x : Record). ruling x q) (same_answer bs (got n) o r r' w v).1 ∙ (ap (ruling r) (asks_asking u q g) ∙ e q);
   }

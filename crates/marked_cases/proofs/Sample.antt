@@ -9,7 +9,7 @@ use lib.Ieee.Bits.{is_true}
 use lib.Dec.{lit<}
 use lib.ListN.{set, replicate}
 use lib.Count.{ones, ones_cat}
-use Rattle.answer.specs.Answer.{guard, bind, pick}
+use Rattle.answer.specs.Answer.{got, guard, bind, pick}
 use Rattle.codec.specs.Octets.{octet}
 use Rattle.codec.specs.Integer.{integer_of}
 use Rattle.codec.specs.Header.{holds, read_high_number, read_identifier, read_length, reported_place, reported, read_header}
@@ -26,7 +26,6 @@ use Rattle.records.specs.Shape.{set_shaped, value_shaped, row_shaped, list_shape
 use Rattle.records.specs.declared.NumberSet.{NumberSet}
 use Rattle.records.specs.declared.Record.{Record}
 use Rattle.reader.specs.Reading.{Reads}
-use Rattle.reader.specs.declared.Outcome.{Outcome}
 use Rattle.records.specs.Empty.{empty_set, empty_root}
 use Rattle.checks.specs.Tags.{there}
 use Rattle.ruling.specs.Rules.{number_in, set_in, Rules, rules_of}
@@ -67,7 +66,7 @@ said = record {
   };
 }
 
-pub said_read : Reads extension (Outcome.Accepted 26) said
+pub said_read : Reads extension (got 26) said
 unfolding read_with decode_with read_eight read_version read_list read_field field_content row_content read_value read_set read_member read_null null_of read_octets read_enumerated read_integer integer_of rows known_version held_in find level_top element tagged exactly both chain chain_fuel under first_pass walk_element run nodes holds read_header reported reported_place read_identifier read_high_number read_length octet guard bind pick value_at field_at up_to all_below content_inside row_inside list_inside parts_inside set_shaped value_shaped row_shaped list_shaped head_shaped well_shaped_record field_value is_there value_word size_word or_zero members_in root_in
 said_read = record { is = refl; empty = tt; sound = (tt, tt); made = refl }
 

@@ -6,7 +6,6 @@ use Rattle.answer.specs.Answer.{Answer, got, refused}
 use Rattle.answer.specs.Refusal.{key_too_small}
 use Rattle.schema.specs.Decode.{read}
 use Rattle.records.specs.declared.Record.{Record}
-use Rattle.reader.specs.declared.Outcome.{Outcome}
 use Rattle.reader.specs.Reading.{Reads}
 use Rattle.ruling.specs.declared.request.Request.{Request}
 use Rattle.checks.specs.Checks.{key_size_refused}
@@ -41,8 +40,8 @@ pub record Asks (u : Use) (q : Request) : Type 0 where
 
 -- the bytes are accepted, and whatever record is read in them, every request for the use gets this answer
 pub record Ruled (bs : List ℕ) (u : Use) (a : Answer Permit) : Type 0 where
-  pub accepted : (n : ℕ) × (r : Record) × Reads bs (Outcome.Accepted n) r
-  pub answers : (o : Outcome) (r : Record) (q : Request) → Reads bs o r → Asks u q → ruling r q ≡ a
+  pub accepted : (n : ℕ) × (r : Record) × Reads bs (got n) r
+  pub answers : (o : Answer ℕ) (r : Record) (q : Request) → Reads bs o r → Asks u q → ruling r q ≡ a
 
 -- "Check 35 alone": of SIGN (2) with RSA (1) and padding 3, by the key sizes that the software and the hardware list hold
 abbrev pub key_size_alone : ℕ → Option ℕ → Option ℕ → Answer (Unit {0})

@@ -32,11 +32,9 @@ use Rattle.records.specs.declared.Record.{Record}
 use Rattle.records.proofs.PlacesRead.{places_read}
 use Rattle.records.proofs.Equal.{equal_content, content_equal}
 use Rattle.records.proofs.ShapedContent.{shaped_content}
-use Rattle.reader.specs.declared.Outcome.{Outcome}
 use Rattle.reader.specs.Reading.{of_reading, Reads}
 use Rattle.reader.proofs.Answered.{same_answer, some_answer}
-use Rattle.writer.specs.declared.Written.{Written}
-use Rattle.writer.specs.Written.{encoding_of, writable, written, of_written, Writes}
+use Rattle.writer.specs.Written.{encoding_of, writable, written, Writes}
 use Rattle.one_record.specs.Accepting.{ReadsAs}
 use Rattle.one_record.specs.Statements.{OneAnswer, ReadRefuses, SchemaRefuses, AcceptedExactly, EqualSameBytes, Encodable, EncodingAccepted, ReadsBackEqual, OnlyEncoding, EncodingSmall, WritesJustThat, RefusedUntouched, WriteNumbers, WriteRefuses, WriteOfRead, ReadOfWrite}
 use Rattle.one_record.proofs.ContentOctets.{content_octets}
@@ -68,12 +66,12 @@ equal_same_bytes xs ys r r' n m o p h g =
 -- ---- one encoding
 
 -- two answers that stand for the same, where one accepts
-outcome_is : (s : List ℕ) (o : Outcome) (r : Record) (c : Content) (n : ℕ) → Octets s → of_reading o r ≡ read_places s → read s ≡ got (c, n) → (o ≡ Outcome.Accepted n) × (content_of r s ≡ c)
+outcome_is : (s : List ℕ) (o : Answer ℕ) (r : Record) (c : Content) (n : ℕ) → Octets s → of_reading o r ≡ read_places s → read s ≡ got (c, n) → (o ≡ got n) × (content_of r s ≡ c)
 unfolding map_answer
-outcome_is s (Outcome.Accepted k) r c n b e g =
+outcome_is s (got k) r c n b e g =
     let q : ◌≡◌ {A = Content × ℕ} (content_of r s, k) (c, n) = got_inj (sym (places_read r s k b (sym e)) ∙ g) in
-    (ap Outcome.Accepted (ap (λ (x : Content × ℕ). x.1) q), ap (λ (x : Content × ℕ). x.0) q)
-outcome_is s (Outcome.Refused k p) r c n b e g = absurd (refused-got (rw (← e) at (sym (octets_at_places s b)) ∙ g))
+    (ap got (ap (λ (x : Content × ℕ). x.1) q), ap (λ (x : Content × ℕ). x.0) q)
+outcome_is s (refused k p) r c n b e g = absurd (refused-got (rw (← e) at (sym (octets_at_places s b)) ∙ g))
 
 module _ (r : Record) (s : List ℕ) (h : Encodable r s) where
   back : read (encoding_of r s) ≡ got (content_of r s, count_of (content_of r s))
@@ -82,7 +80,7 @@ module _ (r : Record) (s : List ℕ) (h : Encodable r s) where
   spelt : Octets (encoding_of r s)
   spelt = encode-octets (content_of r s) (shaped_good (content_of r s) (shaped_content r (octets_at s) h.shaped) (content_octets r s h.octets) h.short)
 
-  answers : (o : Outcome) (r' : Record) → Reads (encoding_of r s) o r' → (o ≡ Outcome.Accepted (count_of (content_of r s))) × (content_of r' (encoding_of r s) ≡ content_of r s)
+  answers : (o : Answer ℕ) (r' : Record) → Reads (encoding_of r s) o r' → (o ≡ got (count_of (content_of r s))) × (content_of r' (encoding_of r s) ≡ content_of r s)
   answers o r' g = outcome_is (encoding_of r s) o r' (content_of r s) (count_of (content_of r s)) spelt g.is back
 
 pub encoding_accepted : EncodingAccepted
@@ -106,25 +104,6 @@ guard_at {ℓ} : {A : Type 0} {X : Type ℓ} (b : Bool) (n p : ℕ) (m : Answer 
 unfolding guard
 guard_at true n p m {k} {q} e f g = g e
 guard_at false n p m {k} {q} e f g = f (let z : n ≡ k = cc in z) (let z : p ≡ q = cc in z)
-
-wrote_is : (w : Written) (n : ℕ) → of_written w ≡ got n → w ≡ Written.Wrote n
-wrote_is (Written.Wrote k) n e = ap Written.Wrote (got_inj e)
-wrote_is (Written.Refused k p) n e = absurd (refused-got e)
-
-abbrev number_of : Answer ℕ → ℕ
-number_of (got a) = 0
-number_of (refused k p) = k
-
-abbrev place_of : Answer ℕ → ℕ
-place_of (got a) = 0
-place_of (refused k p) = p
-
-refused-is : (w : Written) (k p : ℕ) → of_written w ≡ refused k p → w ≡ Written.Refused k p
-refused-is (Written.Wrote n) k p e = absurd (refused-got (sym e))
-refused-is (Written.Refused j q) k p e =
-    let a : j ≡ k = ap number_of e in
-    let b : q ≡ p = ap place_of e in
-    rw (a, b) refl
 
 module _ (r : Record) (s out : List ℕ) where
   shaped : T (well_shaped_record r) → T (parts_inside r (length s)) → T (writable r s)
@@ -164,17 +143,17 @@ front out xs = rw zero-add refl
 pub writes_just_that : WritesJustThat
 writes_just_that r s out after w h l g =
     let e = fits r s out h.shaped h.inside h.short l in
-    (wrote_is w (length (encoding_of r s)) (g.answer ∙ e), g.output ∙ ap (λ (a : Answer ℕ). left a out 0 (encoding_of r s)) e ∙ front out (encoding_of r s))
+    (g.answer ∙ e, g.output ∙ ap (λ (a : Answer ℕ). left a out 0 (encoding_of r s)) e ∙ front out (encoding_of r s))
 
 pub refused_untouched : RefusedUntouched
 refused_untouched r s out after k p g = g.output ∙ ap (λ (a : Answer ℕ). left a out 0 (encoding_of r s)) (sym g.answer)
 
 pub write_refuses : WriteRefuses
 write_refuses r s out after w g = record {
-  unshaped = λ f. refused-is w 20 0 (g.answer ∙ not_writable r s out (λ t. f (and_left (well_shaped_record r) _ t)));
-  outside = λ f. refused-is w 20 0 (g.answer ∙ not_writable r s out (λ t. f (and_right (well_shaped_record r) _ t)));
-  long = λ t i a. refused-is w 22 0 (g.answer ∙ too_long_lem r s out t i a);
-  narrow = λ t i a b. refused-is w 21 0 (g.answer ∙ too_narrow r s out t i a b);
+  unshaped = λ f. g.answer ∙ not_writable r s out (λ t. f (and_left (well_shaped_record r) _ t));
+  outside = λ f. g.answer ∙ not_writable r s out (λ t. f (and_right (well_shaped_record r) _ t));
+  long = λ t i a. g.answer ∙ too_long_lem r s out t i a;
+  narrow = λ t i a b. g.answer ∙ too_narrow r s out t i a b;
 }
 
 pub write_numbers : WriteNumbers
@@ -200,7 +179,7 @@ write_of_read b out after r n w o l g k =
     rw p.1 at j
 
 -- what a write that succeeds took
-pub wrote_encodable : (r : Record) (s out after : List ℕ) (k : ℕ) → Octets s → Writes r s out (Written.Wrote k) after → Encodable r s × (length (encoding_of r s) ≤ length out) × (k ≡ length (encoding_of r s))
+pub wrote_encodable : (r : Record) (s out after : List ℕ) (k : ℕ) → Octets s → Writes r s out (got k) after → Encodable r s × (length (encoding_of r s) ≤ length out) × (k ≡ length (encoding_of r s))
 unfolding written
 wrote_encodable r s out after k o g =
     guard_case (writable r s) 20 0 _ (sym g.answer) λ t e₁.
@@ -211,6 +190,6 @@ wrote_encodable r s out after k o g =
 pub read_of_write : ReadOfWrite
 read_of_write r r' s out after k o q g i =
     let p = wrote_encodable r s out after k q g in
-    let j = writes_just_that r s out after (Written.Wrote k) p.0 p.1 g in
+    let j = writes_just_that r s out after (got k) p.0 p.1 g in
     let e : take k after ≡ encoding_of r s = rw (j.1, p.2) (take-append_seam (encoding_of r s) (drop (length (encoding_of r s)) out)) in
     rw e (encoding_accepted r s p.0 o r' (rw e at i), reads-back_equal r s p.0 o r' (rw e at i))

@@ -2,7 +2,7 @@
 -- statement stands under the sentence that it renders; proofs/OneRecord.antt has the theorem of the same name. Read first
 -- AcceptedExactly, EqualSameBytes and WritesJustThat.
 use Rattle.std.specs.Prelude.{◌⊎◌, ◌↔◌, ◌≡◌, List, ◌++◌, ℕ, ◌≤◌, ◌<◌, length, take, drop, T}
-use Rattle.answer.specs.Answer.{got}
+use Rattle.answer.specs.Answer.{Answer, got, refused}
 use Rattle.codec.specs.Limits.{extension_bytes, extension_depth, extension_elements}
 use Rattle.codec.specs.Octets.{Octets}
 use Rattle.codec.specs.Tree.{Node, nodes, first_pass}
@@ -15,9 +15,7 @@ use Rattle.records.specs.Shape.{well_shaped_record}
 use Rattle.records.specs.Parts.{parts_inside}
 use Rattle.records.specs.Equal.{Equal}
 use Rattle.records.specs.declared.Record.{Record}
-use Rattle.reader.specs.declared.Outcome.{Outcome}
 use Rattle.reader.specs.Reading.{Reads}
-use Rattle.writer.specs.declared.Written.{Written}
 use Rattle.writer.specs.Written.{encoding_of, Writes}
 use Rattle.one_record.specs.Accepting.{ReadsAs}
 
@@ -25,17 +23,17 @@ use Rattle.one_record.specs.Accepting.{ReadsAs}
 abbrev pub OneAnswer : Type 0
 OneAnswer =
     (s : List ℕ) → Octets s
-    → (o : Outcome) × (r : Record) × Reads s o r × ((o' : Outcome) (r' : Record) → Reads s o' r' → (o' ≡ o) × (r' ≡ r))
+    → (o : Answer ℕ) × (r : Record) × Reads s o r × ((o' : Answer ℕ) (r' : Record) → Reads s o' r' → (o' ≡ o) × (r' ≡ r))
 
 -- "each refusal has the number .. fixed in document 01": a refused read has a number from 1 to 14, and from 8 to 14 where the
 -- first pass accepts
 abbrev pub ReadRefuses : Type 0
-ReadRefuses = (s : List ℕ) (k p : ℕ) (r : Record) → Octets s → Reads s (Outcome.Refused k p) r → (1 ≤ k) × (k ≤ 14)
+ReadRefuses = (s : List ℕ) (k p : ℕ) (r : Record) → Octets s → Reads s (refused k p) r → (1 ≤ k) × (k ≤ 14)
 
 abbrev pub SchemaRefuses : Type 0
 SchemaRefuses =
     (s : List ℕ) (k p : ℕ) (r : Record) (t : Node) → Octets s → first_pass extension_bytes extension_depth extension_elements s ≡ got t
-    → Reads s (Outcome.Refused k p) r
+    → Reads s (refused k p) r
     → (8 ≤ k) × (k ≤ 14)
 
 -- "An extension is read exactly when it is DER of the published schema of its version, within document 01's limits": bytes
@@ -63,14 +61,14 @@ pub record Encodable (r : Record) (s : List ℕ) : Type 0 where
 abbrev pub EncodingAccepted : Type 0
 EncodingAccepted =
     (r : Record) (s : List ℕ) → Encodable r s
-    → (o : Outcome) (r' : Record) → Reads (encoding_of r s) o r'
-    → o ≡ Outcome.Accepted (count_of (content_of r s))
+    → (o : Answer ℕ) (r' : Record) → Reads (encoding_of r s) o r'
+    → o ≡ got (count_of (content_of r s))
 
 -- "and reads back equal"
 abbrev pub ReadsBackEqual : Type 0
 ReadsBackEqual =
     (r : Record) (s : List ℕ) → Encodable r s
-    → (o : Outcome) (r' : Record) → Reads (encoding_of r s) o r'
+    → (o : Answer ℕ) (r' : Record) → Reads (encoding_of r s) o r'
     → Equal r s r' (encoding_of r s)
 
 -- "exactly one": no other accepted extension reads as a record equal to it
@@ -89,40 +87,40 @@ EncodingSmall =
 -- "the writer writes just that at the front of the output and changes nothing else"
 abbrev pub WritesJustThat : Type 0
 WritesJustThat =
-    (r : Record) (s out after : List ℕ) (w : Written) → Encodable r s → length (encoding_of r s) ≤ length out
+    (r : Record) (s out after : List ℕ) (w : Answer ℕ) → Encodable r s → length (encoding_of r s) ≤ length out
     → Writes r s out w after
-    → (w ≡ Written.Wrote (length (encoding_of r s))) × (after ≡ encoding_of r s ++ drop (length (encoding_of r s)) out)
+    → (w ≡ got (length (encoding_of r s))) × (after ≡ encoding_of r s ++ drop (length (encoding_of r s)) out)
 
 -- "a refused write changes no byte of the output"
 abbrev pub RefusedUntouched : Type 0
 RefusedUntouched =
-    (r : Record) (s out after : List ℕ) (k p : ℕ) → Writes r s out (Written.Refused k p) after
+    (r : Record) (s out after : List ℕ) (k p : ℕ) → Writes r s out (refused k p) after
     → after ≡ out
 
 -- "Writer: 20, 22, 21": the first of them that applies, at place 0
-pub record RefusesInOrder (r : Record) (s out : List ℕ) (w : Written) : Type 0 where
-  pub unshaped : (T (well_shaped_record r) → ⊥) → w ≡ Written.Refused 20 0
-  pub outside : (T (parts_inside r (length s)) → ⊥) → w ≡ Written.Refused 20 0
-  pub long : T (well_shaped_record r) → T (parts_inside r (length s)) → extension_bytes < length (encoding_of r s) → w ≡ Written.Refused 22 0
-  pub narrow : T (well_shaped_record r) → T (parts_inside r (length s)) → length (encoding_of r s) ≤ extension_bytes → length out < length (encoding_of r s) → w ≡ Written.Refused 21 0
+pub record RefusesInOrder (r : Record) (s out : List ℕ) (w : Answer ℕ) : Type 0 where
+  pub unshaped : (T (well_shaped_record r) → ⊥) → w ≡ refused 20 0
+  pub outside : (T (parts_inside r (length s)) → ⊥) → w ≡ refused 20 0
+  pub long : T (well_shaped_record r) → T (parts_inside r (length s)) → extension_bytes < length (encoding_of r s) → w ≡ refused 22 0
+  pub narrow : T (well_shaped_record r) → T (parts_inside r (length s)) → length (encoding_of r s) ≤ extension_bytes → length out < length (encoding_of r s) → w ≡ refused 21 0
 
 -- .. and no other number
 abbrev pub WriteNumbers : Type 0
-WriteNumbers = (r : Record) (s out after : List ℕ) (k p : ℕ) → Writes r s out (Written.Refused k p) after → (p ≡ 0) × ((k ≡ 20) ⊎ ((k ≡ 21) ⊎ (k ≡ 22)))
+WriteNumbers = (r : Record) (s out after : List ℕ) (k p : ℕ) → Writes r s out (refused k p) after → (p ≡ 0) × ((k ≡ 20) ⊎ ((k ≡ 21) ⊎ (k ≡ 22)))
 
 abbrev pub WriteRefuses : Type 0
-WriteRefuses = (r : Record) (s out after : List ℕ) (w : Written) → Writes r s out w after → RefusesInOrder r s out w
+WriteRefuses = (r : Record) (s out after : List ℕ) (w : Answer ℕ) → Writes r s out w after → RefusesInOrder r s out w
 
 -- write(read(b)) is b
 abbrev pub WriteOfRead : Type 0
 WriteOfRead =
-    (b out after : List ℕ) (r : Record) (n : ℕ) (w : Written) → Octets b → length b ≤ length out
+    (b out after : List ℕ) (r : Record) (n : ℕ) (w : Answer ℕ) → Octets b → length b ≤ length out
     → ReadsAs b r n → Writes r b out w after
-    → (w ≡ Written.Wrote (length b)) × (after ≡ b ++ drop (length b) out)
+    → (w ≡ got (length b)) × (after ≡ b ++ drop (length b) out)
 
 -- read(write(r)) equals r
 abbrev pub ReadOfWrite : Type 0
 ReadOfWrite =
-    (r r' : Record) (s out after : List ℕ) (k : ℕ) (o : Outcome) → Octets s
-    → Writes r s out (Written.Wrote k) after → Reads (take k after) o r'
-    → (o ≡ Outcome.Accepted (count_of (content_of r s))) × Equal r s r' (take k after)
+    (r r' : Record) (s out after : List ℕ) (k : ℕ) (o : Answer ℕ) → Octets s
+    → Writes r s out (got k) after → Reads (take k after) o r'
+    → (o ≡ got (count_of (content_of r s))) × Equal r s r' (take k after)

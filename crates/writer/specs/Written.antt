@@ -36,7 +36,8 @@ left_by r s out = left (written r s out) out 0 (encoding_of r s)
 abbrev pub of_written : Result ℕ Refused → Answer ℕ
 of_written = answer_of (λ n. n)
 
--- all that the contract of `write` says: writing the record r, its parts in s, answers w and leaves after where the output was out
-pub record Writes (r : Record) (s out : List ℕ) (w : Result ℕ Refused) (after : List ℕ) : Type 0 where
-  pub answer : of_written w ≡ written r s out
+-- all that the contract of `write` says, its answer seen by `of_written`: writing the record r, its parts in s, answers w and
+-- leaves after where the output was out
+pub record Writes (r : Record) (s out : List ℕ) (w : Answer ℕ) (after : List ℕ) : Type 0 where
+  pub answer : w ≡ written r s out
   pub output : after ≡ left_by r s out

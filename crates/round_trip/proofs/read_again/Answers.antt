@@ -1,15 +1,18 @@
 -- `read_again` meets its contract: what was written reads as an equal record. Assumes nothing.
-use Rattle.round_trip.proofs.Again.{write_refused, wrote_fits, wrote_whole, read_back}
+use mathlib.Core.Path.{sym}
+use lib.Seq.{length-take-le}
+use Rattle.answer.proofs.Results.{handed_on}
+use Rattle.round_trip.proofs.Again.{write_refused, wrote_fits, reads_again}
 use Rattle.round_trip.proofs.read_again.Goals as goal
 
+pub returns-in_err-n-clause-answer : goal.returns-in_err-n-clause-answer
+returns-in_err-n-clause-answer c = rw (handed_on _ _ c.from_residual.ensures.1) (write_refused _ _ _ _ _ _ c.in_err-n.ensures.answer)
+
 pub slice_bounds-read-end : goal.slice_bounds-read-end
-slice_bounds-read-end c = search wrote_fits
+slice_bounds-read-end c = wrote_fits c.args.r _ _ _ c.in_ok-n.ensures.output c.type_inv.s _ c.in_ok-n.ensures.answer
 
-pub slice_bounds-read-end-in-Wrote : goal.slice_bounds-read-end-in-Wrote
-slice_bounds-read-end-in-Wrote c = search wrote_whole
+pub slice_bounds-read-end-2 : goal.slice_bounds-read-end-2
+slice_bounds-read-end-2 c = sym (length-take-le c.in_ok-n.n c.write.new.out (wrote_fits c.args.r _ _ _ c.in_ok-n.ensures.output c.type_inv.s _ c.in_ok-n.ensures.answer))
 
-pub returns-in-Refused-clause-answer : goal.returns-in-Refused-clause-answer
-returns-in-Refused-clause-answer c = search write_refused
-
-pub returns-in-Wrote-clause-answer : goal.returns-in-Wrote-clause-answer
-returns-in-Wrote-clause-answer c = search read_back
+pub returns-clause-answer : goal.returns-clause-answer
+returns-clause-answer c = reads_again c.args.r _ _ _ c.in_ok-n.ensures.output c.type_inv.s _ c.in_ok-n.ensures.answer _ c.read.ensures
