@@ -3,7 +3,7 @@ use mathlib.Core.Path.{◌≡◌, refl, sym, ap, ◌∙◌}
 use mathlib.Core.Bool.{Bool, true, false, not, ◌&&◌, and_assoc}
 use mathlib.Core.List.{List}
 use mathlib.Core.Logic.{◌↔◌}
-use Prim.Native.Nat.{ℕ, ◌+◌, ◌-◌, ◌<◌, ◌≤◌, min}
+use Prim.Native.Nat.{ℕ, ◌-◌, ◌<◌, ◌≤◌, min}
 use native.Mathlib.Omega.{arith}
 use lib.Dec.{eqb, leb, leb→le}
 use lib.ListN.{length, get_or, take, drop, length-drop}
@@ -43,9 +43,6 @@ all_at_most w n k top h e = at_most w k top (all_at (λ i. leb (get_or w i 0) to
 
 pub from-drop : {A : Type 0} (f : List ℕ → A) (w : List ℕ) (k : ℕ) {x : A} → x ≡ f (take (length w - k) (drop k w)) → x ≡ f (drop k w)
 from-drop f w k e = e ∙ ap f (take_all (length w - k) (drop k w) (omega (arith, length-drop k w)))
-
-pub part-long : (w : List ℕ) (k n all : ℕ) → all ≤ length w → k + n ≤ all → n ≤ length (take (length w - k) (drop k w))
-part-long w k n all h q = rw (take_all (length w - k) (drop k w) (omega (arith, length-drop k w))) (omega (arith, length-drop k w))
 
 -- ---- the tests in the code's order
 

@@ -1,15 +1,11 @@
--- Parts inside a buffer: each answer of the code is the same test of `specs/Parts`, without its sums. Assumes nothing.
-use mathlib.Core.Path.{◌≡◌, refl, sym, ◌∙◌}
+-- Parts inside a buffer: each answer of the code is the same test of `specs/Parts`. Assumes nothing.
+use mathlib.Core.Path.{◌≡◌, refl}
 use mathlib.Core.Logic.{◌⊎◌, inl, inr}
 use Rattle.schema.specs.declared.Kind as code
 use mathlib.Core.Bool.{Bool, true, false, not, ◌&&◌, and_assoc}
-use Prim.Native.Nat.{ℕ, ◌+◌, ◌-◌, ◌<◌, ◌≤◌}
-use native.Mathlib.Omega.{arith}
-use lib.Dec.{leb}
+use Prim.Native.Nat.{ℕ}
 use lib.ListN.{get_or}
-use borrow.Author.Tests.{le-leb, lt-leb}
 use Rattle.answer.specs.Answer.{pick}
-use Rattle.answer.proofs.Logic.{by_le}
 use Rattle.schema.specs.Table.{row_at, row_count}
 use Rattle.schema.specs.Rows.{of_kind, of_row}
 use Rattle.schema.specs.declared.Row.{Row}
@@ -17,17 +13,7 @@ use Rattle.records.specs.declared.RootOfTrust.{RootOfTrust}
 use Rattle.records.specs.declared.FieldList.{FieldList}
 use Rattle.records.specs.declared.Record.{Record}
 use Rattle.records.specs.Rows.{all_below}
-use Rattle.records.specs.Parts.{inside, part_inside, root_inside, content_inside, row_inside, list_inside, parts_inside}
-
--- a start past the end, and what is left after it
-pub starts_past : (start size len : ℕ) → len < start → false ≡ inside start size len
-starts_past start size len h = sym (lt-leb (start + size) len (omega arith))
-
-pub fits-left : (start size len : ℕ) → start ≤ len → leb size (len - start) ≡ inside start size len
-fits-left start size len h =
-    by_le size (len - start)
-    (λ g. le-leb size (len - start) g ∙ sym (le-leb (start + size) len (omega arith)))
-    (λ g. lt-leb size (len - start) g ∙ sym (lt-leb (start + size) len (omega arith)))
+use Rattle.records.specs.Parts.{part_inside, root_inside, content_inside, row_inside, list_inside, parts_inside}
 
 -- the boot key, then the boot hash
 pub root_whole : (t : RootOfTrust) (len : ℕ) → part_inside t.key len && pick t.hashed (part_inside t.hash len) true ≡ root_inside t len
