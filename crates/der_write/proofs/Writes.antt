@@ -1,7 +1,7 @@
 -- What the writer's leaves leave in the output, in plain variables. The idea: stores are splices, and one splice after
 -- another is one. Assumes nothing.
 use mathlib.Core.Path.{◌≡◌, refl, sym, ap, ◌∙◌}
-use mathlib.Core.List.{List, [], ◌∷◌}
+use mathlib.Core.List.{List, [], ◌∷◌, ◌++◌, append-nil}
 use Rattle.std.specs.Prelude.{Result, Ok, Err}
 use Rattle.std.specs.Result.{IsErr, IsErrAnd}
 use Rattle.answer.specs.declared.Refused.{Refused}
@@ -12,8 +12,9 @@ use native.Mathlib.Numerals.{add-one}
 use mir.Val.{Fits}
 use mir.Syntax.{w8, w64}
 use lib.Bits.{bit_and, bit_or, or_shifted_r}
-use lib.ListN.{length, take, drop, set, length-set, length-append}
-use lib.Seq.{drop-drop, take_all}
+use lib.ListN.{length, take, drop, set, length-set, length-append, length-drop}
+use lib.Seq.{drop-drop, take_all, take_at, length-take-le}
+use Rattle.std.proofs.lemmas.List.{drop_all}
 use borrow.Rule.Slice.PartMut.{put_mid}
 use Rattle.std.specs.Int.{bytes_high_first}
 use lib.Pow.{pow-add}
@@ -54,6 +55,12 @@ module _ (out : List ℕ) (at n : ℕ) where
       let r : got end ≡ refused 21 0 = e ∙ rw (lt-leb (at + n) (length out) h) refl in
       absurd (refused-got (sym r)))
 
+-- the length of a part of a slice, from at to end
+pub part_length : (out : List ℕ) (at end n : ℕ) → at + n ≤ length out → end ≡ at + n → length (take (end - at) (drop at out)) ≡ n
+part_length out at end n h e =
+    let l : end - at ≤ length (drop at out) = omega (arith, length-drop at out) in
+    length-take-le (end - at) (drop at out) l ∙ omega arith
+
 -- ---- the low octets of a number, as the last of the sixteen that u128 has
 
 pow_256 : (k : ℕ) → 256 ^ k ≡ 2 ^ (8 * k)
@@ -76,13 +83,21 @@ put_mid-splice old ys xs at n e h =
     let m : at + n - at ≡ n = omega arith in
     rw (m, drop-drop n at old, e, h) refl
 
-pub octets_copied : (old bs ys : List ℕ) (at n x y : ℕ) → n ≤ 9 → y ≡ x → bs ≡ bytes_high_first 16 y → ys ≡ take (16 - (16 - n)) (drop (16 - n) bs)
-    → put_mid at (at + n - at) old ys ≡ splice old at (low_octets n x)
-octets_copied old bs ys at n x y h d e q =
+pub octets_copied : (bs ys : List ℕ) (n x y : ℕ) → n ≤ 9 → y ≡ x → bs ≡ bytes_high_first 16 y → ys ≡ take (16 - (16 - n)) (drop (16 - n) bs) → ys ≡ low_octets n x
+octets_copied bs ys n x y h d e q =
     let l = length-low_octets n x in
     let k : 16 ≡ 16 - n + n = omega arith in
     let w : drop (16 - n) (bytes_high_first 16 x) ≡ low_octets n x = ap (λ m. drop (16 - n) (bytes_high_first m x)) k ∙ drop-bytes (16 - n) n x ∙ bytes-low n x in
-    put_mid-splice old ys (low_octets n x) at n (q ∙ rw (e, d, w) (take_all (16 - (16 - n)) (low_octets n x) (omega arith))) (sym l)
+    q ∙ rw (e, d, w) (take_all (16 - (16 - n)) (low_octets n x) (omega arith))
+
+-- a part that is filled, of a slice that is just filled so
+pub put_mid_is : (old ys xs : List ℕ) (at k : ℕ) → ys ≡ xs → k ≡ length xs → put_mid at k old ys ≡ splice old at xs
+unfolding splice
+put_mid_is old ys xs at k e h = rw (drop-drop k at old, e, h) refl
+
+pub whole : (old xs : List ℕ) → length old ≡ length xs → splice old 0 xs ≡ xs
+unfolding splice
+whole old xs e = let d : drop (0 + length xs) old ≡ [] = drop_all (0 + length xs) old (omega arith) in rw (d, append-nil) refl
 
 -- ---- an identifier
 
@@ -216,8 +231,12 @@ module _ (old : List ℕ) (at f n z : ℕ) where
       unfolding header_put room_for guard
       header_place = rw (lt-ltb f 8 h, lt-ltb n 16384 l, lt-ltb z 65536 s, header-octets) refl
 
-      pub header_fits : (end : ℕ) → got end ≡ room_after old at (m + k) → (f < 8) × (n < 16384) × (at + length (header_octets (identifier f n) z) ≤ length old)
-      header_fits end r = (h, l, rw header-octets (has_space old at (m + k) end r).0)
+      module _ (end : ℕ) (r : got end ≡ room_after old at (m + k)) where
+        pub header_fits : (f < 8) × (n < 16384) × (length (take (end - at) (drop at old)) ≡ length (header_octets (identifier f n) z))
+        header_fits = let x = has_space old at (m + k) end r in (h, l, part_length old at end (m + k) x.0 x.1 ∙ sym header-octets)
+
+        pub header_there : (ys : List ℕ) → ys ≡ header_octets (identifier f n) z → put_mid at (end - at) old ys ≡ splice old at (header_octets (identifier f n) z)
+        header_there ys q = let x = has_space old at (m + k) end r in put_mid_is old ys _ at (end - at) q (omega (arith, x.1, header-octets))
 
 module _ (old : List ℕ) (at f n z : ℕ) (room : at + length (header_octets (identifier f n) z) ≤ length old) where
   pub header-first : at + length (identifier_octets (identifier f n)) ≤ length old
@@ -277,3 +296,105 @@ module _ (old : List ℕ) (at x n : ℕ) (fit : Fits w64 x) (e : n ≡ integer_s
   pub integer_place : room_after old at (2 + n) ≡ room_for old at (integer_element x)
   unfolding room_for
   integer_place = rw integer_length refl
+
+  module _ (end : ℕ) (r : got end ≡ room_after old at (2 + n)) where
+    pub integer_fits : length (take (end - at) (drop at old)) ≡ 2 + n
+    integer_fits = let x = has_space old at (2 + n) end r in part_length old at end (2 + n) x.0 x.1
+
+    pub integer_there : (ys : List ℕ) → ys ≡ integer_element x → put_mid at (end - at) old ys ≡ splice old at (integer_element x)
+    integer_there ys q = let y = has_space old at (2 + n) end r in put_mid_is old ys _ at (end - at) q (omega (arith, y.1, integer_length))
+
+-- ---- slices of just the octets that are put
+
+-- the length of a slice from at on
+rest_length : (s : List ℕ) (at : ℕ) → length (take (length s - at) (drop at s)) ≡ length s - at
+rest_length s at = length-take-le (length s - at) (drop at s) (omega (arith, length-drop at s))
+
+module _ (old : List ℕ) (f n : ℕ) (e : length old ≡ length (identifier_octets (identifier f n))) where
+  fits : 0 + length (identifier_octets (identifier f n)) ≤ length old
+  fits = omega arith
+
+  pub has_one : n < 31 → 0 < length old
+  has_one h = room_one old 0 f n fits h
+
+  pub has-first : 31 ≤ n → 0 < length old
+  has-first h = room-first old 0 f n fits h
+
+  pub has_two : 31 ≤ n → n < 128 → 1 < length old
+  has_two l h = room_two old 0 f n fits l h
+
+  pub has_second : 128 ≤ n → 1 < length old
+  has_second l = room_second old 0 f n fits l
+
+  pub has_three : 128 ≤ n → 2 < length old
+  has_three l = room_three old 0 f n fits l
+
+  pub is_one : n < 31 → set old 0 (f * 32 + n) ≡ identifier_octets (identifier f n)
+  is_one h = put_one old 0 f n fits h ∙ whole old _ e
+
+  pub is_two : 31 ≤ n → n < 128 → set (set old 0 (f * 32 + 31)) 1 n ≡ identifier_octets (identifier f n)
+  is_two l h = put_two old 0 f n fits l h ∙ whole old _ e
+
+  pub is_three : 128 ≤ n → n < 16384 → set (set (set old 0 (f * 32 + 31)) 1 (bit_or (n / 2 ^ 7) 128)) 2 (bit_and n 127) ≡ identifier_octets (identifier f n)
+  is_three l h = put_three old 0 f n fits l h ∙ whole old _ e
+
+module _ (old : List ℕ) (n : ℕ) (e : length old ≡ length (length_octets n)) where
+  long_enough : 0 + length (length_octets n) ≤ length old
+  long_enough = omega arith
+
+  pub has_short : n < 128 → 0 < length old
+  has_short h = short-first old 0 n long_enough h
+
+  pub is_short : n < 128 → set old 0 n ≡ length_octets n
+  is_short h = put-short old 0 n long_enough h ∙ whole old _ e
+
+  module _ (m : ℕ) (d : m ≡ length (length_octets n)) (h : 128 ≤ n) where
+    pub has_long : 0 < length old
+    has_long = length-first old 0 n m d h long_enough
+
+    pub is_long : (s ys : List ℕ) → s ≡ set old 0 (128 + (m - 1)) → ys ≡ low_octets (length (take (length s - 1) (drop 1 s))) n → put_mid 1 (length s - 1) s ys ≡ length_octets n
+    is_long s ys g q =
+        let k : length s - 1 ≡ m - 1 = rw g (simp length-set (omega arith)) in
+        let w : ys ≡ low_octets (m - 1) n = q ∙ rw (rest_length s 1, k) refl in
+        put-long old 0 n m d h long_enough _ (put_mid_is s ys (low_octets (m - 1) n) 1 (length s - 1) w (k ∙ sym (length-low_octets (m - 1) n)) ∙ rw g refl)
+        ∙ whole old _ e
+
+module _ (old : List ℕ) (x n : ℕ) (fit : Fits w64 x) (e : n ≡ integer_size x) (l : length old ≡ 2 + n) where
+  all_of : length old ≡ length (integer_element x)
+  all_of = omega (arith, integer_length old 0 x n fit e)
+
+  pub is_integer_one : n ≡ 1 → set (set (set old 0 2) 1 n) 2 x ≡ integer_element x
+  is_integer_one h = integer_one old 0 x n fit e h (omega arith) ∙ whole old _ all_of
+
+  pub is_integer_two : n ≡ 2 → set (set (set (set old 0 2) 1 n) 2 (x / 256)) 3 (x % 256) ≡ integer_element x
+  is_integer_two h = integer_two old 0 x n fit e h (omega arith) ∙ whole old _ all_of
+
+  pub is_integer : (s ys : List ℕ) → s ≡ set (set old 0 2) 1 n → ys ≡ low_octets (length (take (length s - 2) (drop 2 s))) x → put_mid 2 (length s - 2) s ys ≡ integer_element x
+  is_integer s ys g q =
+      let k : length s - 2 ≡ n = rw g (simp length-set (omega arith)) in
+      let w : ys ≡ low_octets n x = q ∙ rw (rest_length s 2, k) refl in
+      integer_put old 0 x n fit e _ (omega arith) (put_mid_is s ys (low_octets n x) 2 (length s - 2) w (k ∙ sym (length-low_octets n x)) ∙ rw g refl)
+      ∙ whole old _ all_of
+
+-- the header, in the part that it takes
+module _ (old : List ℕ) (f n z m : ℕ) (e : (g : ℕ) → m ≡ length (identifier_octets (identifier g n))) (l : length old ≡ length (header_octets (identifier f n) z)) where
+  pub first_room : m ≤ length old
+  first_room = omega (arith, header-length (identifier f n) z, e f)
+
+  pub first_length : length (take m old) ≡ length (identifier_octets (identifier f n))
+  first_length = length-take-le m old first_room ∙ e f
+
+  module _ (ids : List ℕ) (d : ids ≡ identifier_octets (identifier f n)) where
+    both_length : length (ids ++ drop m old) ≡ length old
+    both_length = rw d (length-append (identifier_octets (identifier f n)) (drop m old) ∙ omega (arith, first_room, length-drop m old, e f))
+
+    pub second_length : length (take (length (ids ++ drop m old) - m) (drop m (ids ++ drop m old))) ≡ length (length_octets z)
+    second_length = rest_length (ids ++ drop m old) m ∙ omega (arith, both_length, header-length (identifier f n) z, e f)
+
+    pub is_header : (lens : List ℕ) → lens ≡ length_octets z → put_mid m (length (ids ++ drop m old) - m) (ids ++ drop m old) lens ≡ header_octets (identifier f n) z
+    unfolding header_octets
+    is_header lens g =
+        let k : length (ids ++ drop m old) - m ≡ length lens = rw g (omega (arith, both_length, header-length (identifier f n) z, e f)) in
+        let t : take m (ids ++ drop m old) ≡ ids = take_at ids (drop m old) m (rw d (sym (e f))) in
+        let r : drop (m + length lens) (ids ++ drop m old) ≡ [] = drop_all (m + length lens) (ids ++ drop m old) (omega (arith, k)) in
+        rw (drop-drop (length (ids ++ drop m old) - m) m (ids ++ drop m old), k, t, r, append-nil, d, g) refl

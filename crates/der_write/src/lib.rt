@@ -4,7 +4,7 @@
 #![tactic(auto)]
 
 ghost use Rattle.std.specs.Prelude.{◌≡◌, ℕ, ◌+◌, ◌<◌, ◌≤◌, leb, length};
-ghost use Rattle.codec.specs.Octets.{splice, left};
+ghost use Rattle.codec.specs.Octets.{left};
 ghost use Rattle.codec.specs.Shortest.{low_octets, bits, integer_size, length_octets};
 ghost use Rattle.codec.specs.Integer.{integer_element};
 ghost use Rattle.codec.specs.Header.{identifier, identifier_octets, header_octets};
@@ -60,55 +60,55 @@ fn place_after(out: &[u8], at: usize, n: usize) -> Result<usize, Refused>
     }
 }
 
-// The n low octets of x, the highest first.
-fn put_octets(out: &mut [u8], at: usize, x: u64, n: usize)
-    requires few { n ≤ 9 }
-    requires room { at + n ≤ length out.old }
-    ensures { out.new ≡ splice out.old at (low_octets n x) }
+// x, the highest octet first, in as many octets as out has.
+fn put_octets(out: &mut [u8], x: u64)
+    requires { length out.old ≤ 9 }
+    ensures { out.new ≡ low_octets (length out.old) x }
 {
     let octets = u128::from(x).to_be_bytes();
-    out[at..at + n].copy_from_slice(&octets[16 - n..]);
+    out.copy_from_slice(&octets[16 - out.len()..]);
 }
 
-// An identifier; a number from 31 on is taken apart seven bits to an octet.
-fn put_identifier(out: &mut [u8], at: usize, form: u8, number: usize)
-    requires { (form < 8) × (number < 16384) × (at + length (identifier_octets (identifier form number)) ≤ length out.old) }
-    ensures { out.new ≡ splice out.old at (identifier_octets (identifier form number)) }
+// An identifier, in just its octets; a number from 31 on is taken apart seven bits to an octet.
+fn put_identifier(out: &mut [u8], form: u8, number: usize)
+    requires { (form < 8) × (number < 16384) × (length out.old ≡ length (identifier_octets (identifier form number))) }
+    ensures { out.new ≡ identifier_octets (identifier form number) }
 {
     if number < 31 {
-        out[at] = form * 32 + number as u8;
+        out[0] = form * 32 + number as u8;
         return;
     }
-    out[at] = form * 32 + 31;
+    out[0] = form * 32 + 31;
     if number < 128 {
-        out[at + 1] = number as u8;
+        out[1] = number as u8;
         return;
     }
-    out[at + 1] = (number >> 7 | 0x80) as u8;
-    out[at + 2] = (number & 0x7f) as u8;
+    out[1] = (number >> 7 | 0x80) as u8;
+    out[2] = (number & 0x7f) as u8;
 }
 
-// A length: one octet, or how many follow and then those.
-fn put_length(out: &mut [u8], at: usize, n: usize)
-    requires { at + length (length_octets n) ≤ length out.old }
-    ensures { out.new ≡ splice out.old at (length_octets n) }
+// A length, in just its octets: one, or how many follow and then those.
+fn put_length(out: &mut [u8], n: usize)
+    requires { length out.old ≡ length (length_octets n) }
+    ensures { out.new ≡ length_octets n }
 {
     if n < 128 {
-        out[at] = n as u8;
+        out[0] = n as u8;
         return;
     }
     let k = length_size(n) - 1;
-    out[at] = (128 + k) as u8;
-    put_octets(out, at + 1, n as u64, k);
+    out[0] = (128 + k) as u8;
+    put_octets(&mut out[1..], n as u64);
 }
 
-// The header of an element, its octets known to fit.
-fn write_header(out: &mut [u8], at: usize, form: u8, number: usize, size: usize)
-    requires { (form < 8) × (number < 16384) × (at + length (header_octets (identifier form number) size) ≤ length out.old) }
-    ensures { out.new ≡ splice out.old at (header_octets (identifier form number) size) }
+// The header of an element, in just its octets.
+fn write_header(out: &mut [u8], form: u8, number: usize, size: usize)
+    requires { (form < 8) × (number < 16384) × (length out.old ≡ length (header_octets (identifier form number) size)) }
+    ensures { out.new ≡ header_octets (identifier form number) size }
 {
-    put_identifier(out, at, form, number);
-    put_length(out, at + identifier_size(number), size);
+    let n = identifier_size(number);
+    put_identifier(&mut out[..n], form, number);
+    put_length(&mut out[n..], size);
 }
 
 // The header of an element with size content octets.
@@ -129,27 +129,27 @@ pub fn put_header(
         return Err(Refused(Refusal::BadLength, at));
     }
     let end = place_after(out, at, identifier_size(number) + length_size(size))?;
-    write_header(out, at, form, number, size);
+    write_header(&mut out[at..end], form, number, size);
     Ok(end)
 }
 
-// The INTEGER x of n content octets, known to fit; most have one, or two.
-fn write_integer(out: &mut [u8], at: usize, x: u64, n: usize)
-    requires { (n ≡ integer_size x) × (n ≤ 9) × (at + (2 + n) ≤ length out.old) }
-    ensures { out.new ≡ splice out.old at (integer_element x) }
+// The INTEGER x of n content octets, in just its octets; most have one, or two, which are stored faster than copied.
+fn write_integer(out: &mut [u8], x: u64, n: usize)
+    requires { (n ≡ integer_size x) × (n ≤ 9) × (length out.old ≡ 2 + n) }
+    ensures { out.new ≡ integer_element x }
 {
-    out[at] = 2;
-    out[at + 1] = n as u8;
+    out[0] = 2;
+    out[1] = n as u8;
     if n == 1 {
-        out[at + 2] = x as u8;
+        out[2] = x as u8;
         return;
     }
     if n == 2 {
-        out[at + 2] = (x / 256) as u8;
-        out[at + 3] = (x % 256) as u8;
+        out[2] = (x / 256) as u8;
+        out[3] = (x % 256) as u8;
         return;
     }
-    put_octets(out, at + 2, x, n);
+    put_octets(&mut out[2..], x);
 }
 
 // The INTEGER x: 02, its length and its shortest content.
@@ -159,6 +159,6 @@ pub fn put_integer(out: &mut [u8], at: usize, x: u64) -> Result<usize, Refused>
 {
     let n = integer_size(x);
     let end = place_after(out, at, 2 + n)?;
-    write_integer(out, at, x, n);
+    write_integer(&mut out[at..end], x, n);
     Ok(end)
 }

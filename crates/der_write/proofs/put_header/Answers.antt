@@ -1,6 +1,7 @@
 -- `put_header` meets its contract: refused in order with nothing changed, or the whole header. Assumes nothing.
 use mathlib.Core.Path.{◌∙◌}
-use Rattle.der_write.proofs.Writes.{kept, wrote, handed_on, no_form, no_number, no_size_lem, header_place, header_fits}
+use native.Mathlib.Omega.{arith}
+use Rattle.der_write.proofs.Writes.{kept, wrote, handed_on, has_space, no_form, no_number, no_size_lem, header_place, header_fits, header_there}
 use Rattle.der_write.proofs.put_header.Goals.{then-form-ge8-via-then-form-ge8, then-form-ge8-via-else-form-ge8+then-number-ge16384}
 use Rattle.der_write.proofs.put_header.Goals as goal
 
@@ -46,4 +47,13 @@ returns-clause-answer c =
     c.in_ok-end.ensures ∙ header_place a.out.now a.at a.form a.number a.size c.if-form-ge8.false c.if-number-ge16384.false c.if-size-ge65536.false _ _ c.identifier_size.ensures.is c.length_size.ensures.is
 
 pub returns-clause-output : goal.returns-clause-output
-returns-clause-output c = wrote _ _ c.args.out.now _ c.args.at _ (returns-clause-answer c) c.write_header.ensures
+returns-clause-output c = wrote _ _ c.args.out.now _ c.args.at _ (returns-clause-answer c) (header_there c.args.out.now c.args.at c.args.form c.args.number c.args.size c.if-form-ge8.false c.if-number-ge16384.false c.if-size-ge65536.false _ _ c.identifier_size.ensures.is c.length_size.ensures.is _ c.in_ok-end.ensures _ c.write_header.ensures)
+
+pub slice_bounds-write_header-count : goal.slice_bounds-write_header-count
+slice_bounds-write_header-count c = let x = has_space c.args.out.now c.args.at _ _ c.in_ok-end.ensures in omega (arith, x.0, x.1)
+
+pub slice_bounds-write_header-start : goal.slice_bounds-write_header-start
+slice_bounds-write_header-start c = let x = has_space c.args.out.now c.args.at _ _ c.in_ok-end.ensures in omega (arith, x.0, x.1)
+
+pub slice_bounds-write_header-end : goal.slice_bounds-write_header-end
+slice_bounds-write_header-end c = let x = has_space c.args.out.now c.args.at _ _ c.in_ok-end.ensures in omega (arith, x.0, x.1)

@@ -1,34 +1,34 @@
 -- `put_identifier` meets its contract: one law of `Writes` for each of the three forms. Assumes nothing.
 use lib.ListN.{length-set}
-use Rattle.der_write.proofs.Writes.{fits_high7, fits_low7, room_one, room_two, room_three, room_second, room-first, put_one, put_two, put_three}
+use Rattle.der_write.proofs.Writes.{fits_high7, fits_low7, has_one, has_two, has_three, has_second, has-first, is_one, is_two, is_three}
 use Rattle.der_write.proofs.put_identifier.Goals as goal
 
-pub bounds-out-at : goal.bounds-out-at
-bounds-out-at c = search room_one
+pub bounds-out-0 : goal.bounds-out-0
+bounds-out-0 c = search has_one
 
 pub returns-then-number-lt31 : goal.returns-then-number-lt31
-returns-then-number-lt31 c = search put_one
+returns-then-number-lt31 c = search is_one
 
-pub bounds-out-at-2 : goal.bounds-out-at-2
-bounds-out-at-2 c = search room-first
+pub bounds-out-0-2 : goal.bounds-out-0-2
+bounds-out-0-2 c = search has-first
 
-pub bounds-out-at-then-number-lt128 : goal.bounds-out-at-then-number-lt128
-bounds-out-at-then-number-lt128 c = simp length-set (search room_two)
+pub bounds-out-1 : goal.bounds-out-1
+bounds-out-1 c = simp length-set (search has_two)
 
 pub returns-then-number-lt128 : goal.returns-then-number-lt128
-returns-then-number-lt128 c = search put_two
+returns-then-number-lt128 c = search is_two
 
 pub overflow_cast-out-2 : goal.overflow_cast-out-2
 overflow_cast-out-2 c = search fits_high7
 
-pub bounds-out-at-3 : goal.bounds-out-at-3
-bounds-out-at-3 c = simp length-set (search room_second)
+pub bounds-out-1-2 : goal.bounds-out-1-2
+bounds-out-1-2 c = simp length-set (search has_second)
 
 pub overflow_cast-out-3 : goal.overflow_cast-out-3
 overflow_cast-out-3 c = search fits_low7
 
-pub bounds-out-at-4 : goal.bounds-out-at-4
-bounds-out-at-4 c = simp length-set (search room_three)
+pub bounds-out-2 : goal.bounds-out-2
+bounds-out-2 c = simp length-set (search has_three)
 
 pub returns : goal.returns
-returns c = search put_three
+returns c = search is_three

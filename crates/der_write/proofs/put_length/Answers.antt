@@ -1,22 +1,16 @@
 -- `put_length` meets its contract: one store, or the count of octets and then those. Assumes nothing.
-use native.Mathlib.Omega.{arith}
-use Rattle.der_write.proofs.Writes.{short-first, put-short, length-first, length_rest, put-long}
+use mathlib.Core.Path.{refl}
+use Rattle.der_write.proofs.Writes.{has_short, is_short, has_long, is_long}
 use Rattle.der_write.proofs.put_length.Goals as goal
 
-pub bounds-out-at : goal.bounds-out-at
-bounds-out-at c = search short-first
+pub bounds-out-0 : goal.bounds-out-0
+bounds-out-0 c = search has_short
 
 pub returns-then-n-lt128 : goal.returns-then-n-lt128
-returns-then-n-lt128 c = search put-short
+returns-then-n-lt128 c = search is_short
 
-pub bounds-out-at-2 : goal.bounds-out-at-2
-bounds-out-at-2 c = search length-first
-
-pub put_octets-requires-clause-few : goal.put_octets-requires-clause-few
-put_octets-requires-clause-few c = omega (arith, c.length_size-k.ensures.few)
-
-pub put_octets-requires-clause-room : goal.put_octets-requires-clause-room
-put_octets-requires-clause-room c = search length_rest
+pub bounds-out-0-2 : goal.bounds-out-0-2
+bounds-out-0-2 c = search has_long
 
 pub returns : goal.returns
-returns c = search put-long
+returns c = is_long c.args.out.now c.args.n c.requires c.length_size-k.result c.length_size-k.ensures.is c.if-n-lt128.false _ c.put_octets.new.out refl c.put_octets.ensures
