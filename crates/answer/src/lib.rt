@@ -114,6 +114,15 @@ impl Refusal {
 #[derive(Clone, Copy, Debug, PartialEq, Eq)]
 pub struct Refused(pub Refusal, pub usize);
 
+// A refusal that has no place of its own stands at 0.
+impl From<Refusal> for Refused {
+    ghost from_gives = { λ refusal r. r ≡ record { 0 = refusal; 1 = 0 } };
+
+    fn from(refusal: Refusal) -> Refused {
+        Refused(refusal, 0)
+    }
+}
+
 impl fmt::Display for Refused {
     fn fmt<W: fmt::Write>(&self, f: &mut fmt::Formatter<W>) -> fmt::Result {
         let number = self.0.number();
@@ -123,86 +132,3 @@ impl fmt::Display for Refused {
 }
 
 impl Error for Refused {}
-
-// The same numbers, for crates that have not come over to Refusal.
-pub const TOO_LONG: u8 = 1;
-
-pub const RUNS_OUT: u8 = 2;
-
-pub const BAD_IDENTIFIER: u8 = 3;
-
-pub const BAD_LENGTH: u8 = 4;
-
-pub const TOO_DEEP: u8 = 5;
-
-pub const TOO_MANY_ELEMENTS: u8 = 6;
-
-pub const SPARE_BYTES: u8 = 7;
-
-pub const UNKNOWN_VERSION: u8 = 8;
-
-pub const WRONG_ELEMENT: u8 = 9;
-
-pub const BAD_CONTENT: u8 = 10;
-
-pub const NOT_IN_VERSION: u8 = 11;
-
-pub const FIELD_ORDER: u8 = 12;
-
-pub const MEMBER_ORDER: u8 = 13;
-
-pub const TOO_MANY_MEMBERS: u8 = 14;
-
-pub const ILL_SHAPED: u8 = 20;
-
-pub const OUTPUT_SHORT: u8 = 21;
-
-pub const ENCODING_TOO_LONG: u8 = 22;
-
-pub const PURPOSE_UNKNOWN: u8 = 30;
-
-pub const PURPOSE_NOT_ALLOWED: u8 = 31;
-
-pub const ALGORITHM_UNFIT: u8 = 32;
-
-pub const PADDING_NOT_ALLOWED: u8 = 33;
-
-pub const DIGEST_NOT_ALLOWED: u8 = 34;
-
-pub const KEY_TOO_SMALL: u8 = 35;
-
-pub const CLOCK_BELOW_FLOOR: u8 = 36;
-
-pub const NOT_YET_ACTIVE: u8 = 37;
-
-pub const EXPIRED: u8 = 38;
-
-pub const NO_AUTH_RULE: u8 = 39;
-
-pub const TOKEN_UNFIT: u8 = 40;
-
-pub const TOKEN_NOT_FRESH: u8 = 41;
-
-pub const DEVICE_LOCKED: u8 = 42;
-
-pub const USER_NOT_PRESENT: u8 = 43;
-
-pub const NOT_CONFIRMED: u8 = 44;
-
-pub const EARLY_BOOT_OVER: u8 = 45;
-
-pub const USED_UP: u8 = 46;
-
-pub const CHALLENGE_DIFFERS: u8 = 50;
-
-pub const SOFTWARE_LEVEL: u8 = 51;
-
-pub const NO_ROOT_OF_TRUST: u8 = 52;
-
-pub const BOOT_UNLOCKED: u8 = 53;
-
-pub const BOOT_NOT_VERIFIED: u8 = 54;
-
-pub const ORIGIN_NOT_GENERATED: u8 = 55;
-
-pub const SHORT_IMAGE: u8 = 200;

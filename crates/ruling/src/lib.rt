@@ -41,9 +41,7 @@ fn looked_at(case: &Case) -> [bool; 16]
 fn ruled(level: u32, keymint_level: u32, case: &Case) -> Result<Permit, Refused>
     ensures { of_ruling result ≡ ruled level keymint_level (of_rules case.now.software) (of_rules case.now.hardware) case.now.request }
 {
-    if let Err(refusal) = case.first_refusal() {
-        return Err(Refused(refusal, 0));
-    }
+    case.first_refusal()?;
     let asked = looked_at(case);
     let hardware = marks::mark_of(marks::held_tags(&case.hardware), asked);
     let software = marks::mark_of(marks::held_tags(&case.software), asked);

@@ -8,46 +8,29 @@ use Prim.Native.Nat.{ℕ, ◌<◌, ◌≤◌}
 use lib.Dec.{eqb}
 use lib.ListN.{length, set}
 use borrow.Author.Tests.{le-leb, lt-leb}
-use Rattle.answer.specs.Answer.{Answer, refused, guard, bind}
+use Rattle.answer.specs.Answer.{Answer, got, refused, guard, bind}
 use Rattle.answer.specs.Refusal.{short_image}
 use Rattle.codec.specs.Octets.{splice}
 use Rattle.codec.proofs.Splice.{splice-nothing, splice_stores}
 use Rattle.records.specs.declared.Record.{Record}
-use Rattle.octet_fields.specs.declared.Asked as code
-use Rattle.octet_fields.specs.Asked.{asked_octets, of_asked}
-use Rattle.writer.specs.Written.{written, left_by, of_written}
-use Rattle.writer.specs.declared.Written.{Written}
+use Rattle.octet_fields.specs.Asked.{asked_octets}
+use Rattle.writer.specs.Written.{written, left_by}
 use Rattle.ruling.specs.Ruling.{Permit, ruling}
-use Rattle.ruling.specs.Code.{of_ruling}
-use Rattle.ruling.specs.declared.Ruling.{Ruling}
 use Rattle.ruling.specs.declared.request.Request.{Request}
-use Rattle.enrolment.specs.Enrolled.{enrolled, of_enrolment}
-use Rattle.enrolment.specs.declared.Enrolment.{Enrolment}
-use Rattle.listing.specs.declared.Listed.{Listed}
-use Rattle.listing.specs.Room.{of_listed}
-use Rattle.image.specs.declared.Imaged.{Imaged}
-use Rattle.image.specs.Image.{record_in, of_imaged}
-use Rattle.image.proofs.Imaging.{is-refused, is-got}
-use Rattle.sculldrip.specs.Packed.{packed}
-use Rattle.sculldrip.specs.Calls.{at_least, of_image, beside, leaves, write_image, write_answer, write_leaves, ask_image, request_of, rule_image, enrol_image}
+use Rattle.enrolment.specs.Enrolled.{enrolled}
+use Rattle.image.specs.Image.{record_in}
+use Rattle.sculldrip.specs.Calls.{at_least, of_image, beside, leaves, write_image, write_leaves, ask_image, request_of, rule_image, enrol_image, enrol_beside}
 
 -- ---- the number of an answer, and what it leaves
 
 module _ {A : Type 0} {x a : Answer A} (e : x ≡ a) where
-  pub numbered : (count : A → ℕ) {n : ℕ} → n ≡ packed (beside count x) → n ≡ packed (beside count a)
-  numbered count {n} h = subst (λ (y : Answer A). n ≡ packed (beside count y)) e h
-
   left-words : (words : A → List ℕ) (old : List ℕ) {new : List ℕ} → new ≡ leaves words x old → new ≡ leaves words a old
   left-words words old {new} h = subst (λ (y : Answer A). new ≡ leaves words y old) e h
 
 -- both clauses at once
-module _ {A : Type 0} (count : A → ℕ) (words : A → List ℕ) (old : List ℕ) {x a : Answer A} (e : x ≡ a) {new : List ℕ} {n : ℕ} where
-  pub answered : n ≡ packed (beside count x) → new ≡ leaves words x old → (n ≡ packed (beside count a)) × (new ≡ leaves words a old)
-  answered p q = (numbered e count p, left-words e words old q)
-
--- the number of a listing's answer
-pub told_listed : {a x : Listed} {n : ℕ} → n ≡ packed (of_listed x) → a ≡ x → n ≡ packed (of_listed a)
-told_listed p m = p ∙ ap (λ (y : Listed). packed (of_listed y)) (sym m)
+module _ {A : Type 0} (count : A → ℕ) (words : A → List ℕ) (old : List ℕ) {x a : Answer A} (e : x ≡ a) {new : List ℕ} where
+  pub answered : new ≡ leaves words x old → (beside count x ≡ beside count a) × (new ≡ leaves words a old)
+  answered q = (ap (beside count) e, left-words e words old q)
 
 -- ---- the tests before
 
@@ -60,38 +43,36 @@ module _ {A : Type 0} (n : ℕ) (words : List ℕ) (next : Answer A) where
   unfolding guard
   enough h = rw (le-leb n (length words) h) refl
 
-module _ {A : Type 0} (image : List ℕ) (next : Record → Answer A) (i : Imaged) (e : of_imaged i ≡ record_in image) where
-  pub no_record : (i.refusal ≡ 0 → ⊥) → refused i.refusal 0 ≡ of_image image next
+module _ {A : Type 0} (image : List ℕ) (next : Record → Answer A) where
+  pub no_record : (k p : ℕ) → refused k p ≡ record_in image → refused k p ≡ of_image image next
   unfolding bind
-  no_record h = rw (is-refused image i e h) refl
+  no_record k p e = rw (← e) refl
 
-  pub of_record : i.refusal ≡ 0 → next i.said ≡ of_image image next
+  pub of_record : (r : Record) → got r ≡ record_in image → next r ≡ of_image image next
   unfolding bind
-  of_record h = rw (is-got image i e h) refl
+  of_record r e = rw (← e) refl
 
 -- ---- enrol
 
-module _ (image s expected : List ℕ) (i : Imaged) (e : of_imaged i ≡ record_in image) where
-  pub enrol_none : (i.refusal ≡ 0 → ⊥) → refused i.refusal 0 ≡ enrol_image image s expected
+module _ (image s expected : List ℕ) where
+  pub enrol_none : (k p : ℕ) → refused k p ≡ record_in image → refused k p ≡ enrol_beside image s expected
   unfolding enrol_image
-  enrol_none h = no_record image (λ r. enrolled r s expected) i e h
+  enrol_none k p e = ap (beside (λ u. 0)) (no_record image (λ r. enrolled r s expected) k p e)
 
-  pub enrol_is : i.refusal ≡ 0 → (x : Enrolment) {a : Enrolment} → of_enrolment a ≡ enrolled i.said s expected → a ≡ x → of_enrolment x ≡ enrol_image image s expected
+  pub enrol_is : (r : Record) → got r ≡ record_in image → (a : Answer (Unit {0})) → a ≡ enrolled r s expected → beside (λ u. 0) a ≡ enrol_beside image s expected
   unfolding enrol_image
-  enrol_is h x w m = sym (ap of_enrolment m) ∙ (w ∙ of_record image (λ r. enrolled r s expected) i e h)
+  enrol_is r e a w = ap (beside (λ u. 0)) (w ∙ of_record image (λ r. enrolled r s expected) r e)
 
 -- ---- write
 
-module _ (image s out : List ℕ) (i : Imaged) (e : of_imaged i ≡ record_in image) where
-  pub write_none : (i.refusal ≡ 0 → ⊥) → {n : ℕ} → n ≡ packed (refused i.refusal 0) → (n ≡ write_answer image s out) × (out ≡ write_leaves image s out)
+module _ (image s out : List ℕ) where
+  pub write_none : (k p : ℕ) → refused k p ≡ record_in image → (refused k p ≡ write_image image s out) × (out ≡ write_leaves image s out)
   unfolding write_image bind
-  write_none h p = rw (is-refused image i e h) (p, refl)
+  write_none k p e = rw (← e) (refl, refl)
 
-  pub write_is : i.refusal ≡ 0 → {a x : Written} {n : ℕ} {new : List ℕ} → of_written a ≡ written i.said s out → new ≡ left_by i.said s out
-      → a ≡ x → n ≡ packed (of_written x)
-      → (n ≡ write_answer image s out) × (new ≡ write_leaves image s out)
+  pub write_is : (r : Record) → got r ≡ record_in image → {a : Answer ℕ} {new : List ℕ} → a ≡ written r s out → new ≡ left_by r s out → (a ≡ write_image image s out) × (new ≡ write_leaves image s out)
   unfolding write_image bind
-  write_is h w l m p = rw (is-got image i e h) (p ∙ ap packed (sym (ap of_written m) ∙ w), l)
+  write_is r e w l = rw (← e) (w, l)
 
 -- ---- rule
 
@@ -104,16 +85,16 @@ module _ (image request permit : List ℕ) where
   unfolding rule_image
   rule_no_permit p h = too_few 4 permit _ h ∙ enough 16 request _ p
 
-  module _ (p : 16 ≤ length request) (q : 4 ≤ length permit) (i : Imaged) (e : of_imaged i ≡ record_in image) where
+  module _ (p : 16 ≤ length request) (q : 4 ≤ length permit) where
     inner : {x : Answer Permit} → x ≡ of_image image (λ r. ruling r (request_of request)) → x ≡ rule_image image request permit
     unfolding rule_image
     inner e = e ∙ (enough 4 permit _ q ∙ enough 16 request _ p)
 
-    pub rule_none : (i.refusal ≡ 0 → ⊥) → refused i.refusal 0 ≡ rule_image image request permit
-    rule_none h = inner (no_record image (λ r. ruling r (request_of request)) i e h)
+    pub rule_none : (k p : ℕ) → refused k p ≡ record_in image → refused k p ≡ rule_image image request permit
+    rule_none k p e = inner (no_record image (λ r. ruling r (request_of request)) k p e)
 
-    pub rule_is : i.refusal ≡ 0 → {u : Request} → u ≡ request_of request → {a x : Ruling} → of_ruling a ≡ ruling i.said u → a ≡ x → of_ruling x ≡ rule_image image request permit
-    rule_is h g w m = inner (sym (ap of_ruling m) ∙ (w ∙ (ap (λ (y : Request). ruling i.said y) g ∙ of_record image (λ r. ruling r (request_of request)) i e h)))
+    pub rule_is : (r : Record) → got r ≡ record_in image → {u : Request} → u ≡ request_of request → {a : Answer Permit} → a ≡ ruling r u → a ≡ rule_image image request permit
+    rule_is r e g w = inner (w ∙ (ap (λ (y : Request). ruling r y) g ∙ of_record image (λ r. ruling r (request_of request)) r e))
 
 -- a permit's words, stored one after the other
 pub permit_stored : (old : List ℕ) (a b c d : ℕ) → 4 ≤ length old → set (set (set (set old 0 a) 1 b) 2 c) 3 d ≡ splice old 0 (a ∷ b ∷ c ∷ d ∷ [])
@@ -126,16 +107,16 @@ module _ (image : List ℕ) (hardware number len : ℕ) (part : List ℕ) where
   unfolding ask_image
   ask_no_part h = too_few 2 part _ h
 
-  module _ (q : 2 ≤ length part) (i : Imaged) (e : of_imaged i ≡ record_in image) where
+  module _ (q : 2 ≤ length part) where
     asks : {x : Answer (Option (ℕ × ℕ))} → x ≡ of_image image (λ r. asked_octets r (not (eqb hardware 0)) number len) → x ≡ ask_image image hardware number len part
     unfolding ask_image
     asks e = e ∙ enough 2 part _ q
 
-    pub ask_none : (i.refusal ≡ 0 → ⊥) → refused i.refusal 0 ≡ ask_image image hardware number len part
-    ask_none h = asks (no_record image (λ r. asked_octets r (not (eqb hardware 0)) number len) i e h)
+    pub ask_none : (k p : ℕ) → refused k p ≡ record_in image → refused k p ≡ ask_image image hardware number len part
+    ask_none k p e = asks (no_record image (λ r. asked_octets r (not (eqb hardware 0)) number len) k p e)
 
-    pub ask_is : i.refusal ≡ 0 → {a x : code.Asked} → of_asked a ≡ asked_octets i.said (not (eqb hardware 0)) number len → a ≡ x → of_asked x ≡ ask_image image hardware number len part
-    ask_is h w m = asks (sym (ap of_asked m) ∙ (w ∙ of_record image (λ r. asked_octets r (not (eqb hardware 0)) number len) i e h))
+    pub ask_is : (r : Record) → got r ≡ record_in image → {a : Answer (Option (ℕ × ℕ))} → a ≡ asked_octets r (not (eqb hardware 0)) number len → a ≡ ask_image image hardware number len part
+    ask_is r e w = asks (w ∙ of_record image (λ r. asked_octets r (not (eqb hardware 0)) number len) r e)
 
 -- a part's words, stored one after the other; none where there is none
 pub part_stored : (old : List ℕ) (a b : ℕ) → 2 ≤ length old → set (set old 0 a) 1 b ≡ splice old 0 (a ∷ b ∷ [])

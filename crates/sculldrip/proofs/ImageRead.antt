@@ -1,7 +1,6 @@
 -- A read's answer is the defined one, and the image that it fills is that of the record read; what follows for the image's
 -- own record. Assumes nothing.
-use mathlib.Core.Path.{◌≡◌, refl, sym, ap, subst, ◌∙◌}
-use mathlib.Core.Bool.{Bool, true, false, true≢false}
+use mathlib.Core.Path.{◌≡◌, refl, ap, subst, ◌∙◌}
 use mathlib.Core.List.{List, ◌++◌}
 use Prim.Native.Nat.{ℕ, ◌+◌, ◌<◌, ◌≤◌}
 use native.Mathlib.Omega.{arith}
@@ -10,37 +9,34 @@ use mir.Val.{Fits}
 use lib.ListN.{length, get_or, drop}
 use lib.Seq.{drop_at}
 use borrow.Author.Tests.{le-leb}
-use Rattle.answer.specs.Answer.{Answer, refused, pick}
+use Rattle.answer.specs.Answer.{Answer, got, refused, pick}
 use Rattle.answer.specs.Refusal.{short_image}
 use Rattle.codec.specs.Octets.{splice}
 use Rattle.codec.proofs.Splice.{length-splice}
 use Rattle.schema.specs.Content.{Content}
 use Rattle.schema.specs.Decode.{read}
 use Rattle.records.specs.declared.Record.{Record}
-use Rattle.reader.specs.declared.Outcome.{Outcome}
 use Rattle.reader.specs.Reading.{Reads}
 use Rattle.extension_text.proofs.Said.{said_in, said-is}
 use Rattle.image.specs.Image.{image_of, record_of, words_fit, image_put}
 use Rattle.image.specs.Whole.{WholeRecord}
 use Rattle.image.proofs.Puts.{image-length}
 use Rattle.image.proofs.RoundTrip.{record_back, image-fits}
-use Rattle.sculldrip.specs.Packed.{packed}
-use Rattle.sculldrip.specs.Calls.{beside, is_accepted, elements_of, read_into, read_answer, ImageOfRead, LeavesRead, ReadLeaves}
+use Rattle.sculldrip.specs.Calls.{elements, read_into, ImageOfRead, LeavesRead, ReadLeaves}
 use Rattle.sculldrip.specs.Statements.{ReadImage, ReadBack}
-use Rattle.sculldrip.proofs.Calls.{too_few, enough, numbered}
+use Rattle.sculldrip.proofs.Calls.{too_few, enough}
 
 -- both clauses, from the answer that they speak of
-told : (s old new : List ℕ) {x : Answer (Content × ℕ)} → x ≡ read_into s old → {n : ℕ} → n ≡ packed (beside (λ c. c.1) x) → LeavesRead x s old new
-    → (n ≡ read_answer s old) × ReadLeaves s old new
-told s old new e {n} p q = (numbered e (λ c. c.1) p, subst (λ (y : Answer (Content × ℕ)). LeavesRead y s old new) e q)
+told : (s old new : List ℕ) {x : Answer (Content × ℕ)} → x ≡ read_into s old → LeavesRead x s old new → (elements x ≡ elements (read_into s old)) × ReadLeaves s old new
+told s old new e q = (ap elements e, subst (λ (y : Answer (Content × ℕ)). LeavesRead y s old new) e q)
 
 module _ (s old : List ℕ) where
-  pub read_short : length old < 410 → {n : ℕ} → n ≡ packed (refused short_image 0) → (n ≡ read_answer s old) × ReadLeaves s old old
+  pub read_short : length old < 410 → (refused short_image 0 ≡ elements (read_into s old)) × ReadLeaves s old old
   unfolding read_into
-  read_short h p = told s old old (too_few 410 old (read s) h) p refl
+  read_short h = told s old old (too_few 410 old (read s) h) refl
 
   module _ (h : 410 ≤ length old) (f : (k : ℕ) → Fits w8 (get_or s k 0)) (r : Record) where
-    found : (o : Outcome) → Reads s o r → said_in s o r ≡ read_into s old
+    found : (o : Answer ℕ) → Reads s o r → said_in s o r ≡ read_into s old
     unfolding read_into
     found o is = said-is s f o r is ∙ enough 410 old (read s) h
 
@@ -48,14 +44,11 @@ module _ (s old : List ℕ) where
     unfolding image_put pick
     put e = rw (le-leb 410 (length old) h) at e
 
-    pub read-refused : (o : Outcome) → Reads s o r → {b : Bool} → b ≡ is_accepted o → b ≡ false → {n : ℕ} → n ≡ packed (elements_of o) → (n ≡ read_answer s old) × ReadLeaves s old old
-    read-refused (Outcome.Accepted k) is e t p = absurd (true≢false (sym e ∙ t))
-    read-refused (Outcome.Refused k q) is e t p = told s old old (found (Outcome.Refused k q) is) p refl
+    pub read-refused : (k q : ℕ) → Reads s (refused k q) r → (refused k q ≡ elements (read_into s old)) × ReadLeaves s old old
+    read-refused k q is = told s old old (found (refused k q) is) refl
 
-    pub read_filled : (o : Outcome) → Reads s o r → {b : Bool} → b ≡ is_accepted o → b ≡ true → {n : ℕ} {new : List ℕ} → n ≡ packed (elements_of o) → (new ≡ image_put old r) × (410 ≤ length old → WholeRecord r)
-        → (n ≡ read_answer s old) × ReadLeaves s old new
-    read_filled (Outcome.Accepted k) is e t {n} {new} p (q, w) = told s old new (found (Outcome.Accepted k) is) p (record { said = r; reads = is; whole = w h; image = put q })
-    read_filled (Outcome.Refused k q) is e t p z = absurd (true≢false (sym t ∙ e))
+    pub read_filled : (k : ℕ) → Reads s (got k) r → {new : List ℕ} → new ≡ image_put old r → (410 ≤ length old → WholeRecord r) → (got k ≡ elements (read_into s old)) × ReadLeaves s old new
+    read_filled k is {new} q w = told s old new (found (got k) is) (record { said = r; reads = is; whole = w h; image = put q })
 
 -- ---- what a read leaves, said of the image alone
 

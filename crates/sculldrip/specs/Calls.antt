@@ -1,7 +1,8 @@
 -- What each function of include/sculldrip.h answers and leaves, by the definitions that the rest of the project is proved
 -- against. Slices that are too short come first (200), then an image that is of no record (20); a refusal changes nothing.
 -- Statements has what is proved of these answers.
-use Rattle.std.specs.Prelude.{◌≡◌, Bool, true, false, not, List, [], ◌∷◌, ℕ, length, get_or, eqb, leb}
+use Rattle.std.specs.Prelude.{◌≡◌, Bool, not, List, [], ◌∷◌, ℕ, length, get_or, eqb, leb}
+use Rattle.std.specs.Bool.{then_some}
 use Rattle.std.proofs.Math.Option.{Option, none, some}
 use Rattle.answer.specs.Answer.{Answer, got, refused, guard, bind}
 use Rattle.answer.specs.Refusal.{short_image}
@@ -10,7 +11,6 @@ use Rattle.schema.specs.Content.{Content}
 use Rattle.schema.specs.Decode.{read}
 use Rattle.records.specs.declared.Record.{Record}
 use Rattle.octet_fields.specs.Asked.{asked_octets}
-use Rattle.reader.specs.declared.Outcome.{Outcome}
 use Rattle.reader.specs.Reading.{Reads}
 use Rattle.writer.specs.Written.{written, left_by}
 use Rattle.ruling.specs.Ruling.{Permit, ruling}
@@ -50,23 +50,18 @@ interface_version = 2
 unfoldable pub read_into : List ℕ → List ℕ → Answer (Content × ℕ)
 read_into s image = at_least 410 image (read s)
 
+-- the count of elements beside what was read
+abbrev pub elements : Answer (Content × ℕ) → Answer ℕ
+elements a = beside (λ c. c.1) a
+
 abbrev pub read_answer : List ℕ → List ℕ → ℕ
-read_answer s image = packed (beside (λ c. c.1) (read_into s image))
-
--- a read's outcome: whether there is a record, and its count of elements
-abbrev pub is_accepted : Outcome → Bool
-is_accepted (Outcome.Accepted n) = true
-is_accepted (Outcome.Refused number place) = false
-
-abbrev pub elements_of : Outcome → Answer ℕ
-elements_of (Outcome.Accepted n) = got n
-elements_of (Outcome.Refused number place) = refused number place
+read_answer s image = packed (elements (read_into s image))
 
 -- the words of a record as the code has it, of which all holds that is promised of a record read from s with n elements
 -- (reader Reading: what it says, that it is well-shaped, where its parts lie), at the front; the words after them stay
 pub record ImageOfRead (s old new : List ℕ) (n : ℕ) : Type 0 where
   pub said : Record
-  pub reads : Reads s (Outcome.Accepted n) said
+  pub reads : Reads s (got n) said
   pub whole : WholeRecord said
   pub image : new ≡ splice old 0 (image_of said)
 
@@ -108,8 +103,11 @@ abbrev pub part_words : Option (ℕ × ℕ) → List ℕ
 part_words (some p) = p.0 ∷ p.1 ∷ []
 part_words none = []
 
+abbrev pub asked_beside : List ℕ → ℕ → ℕ → ℕ → List ℕ → Answer ℕ
+asked_beside image hardware number len part = beside asked (ask_image image hardware number len part)
+
 abbrev pub ask_answer : List ℕ → ℕ → ℕ → ℕ → List ℕ → ℕ
-ask_answer image hardware number len part = packed (beside asked (ask_image image hardware number len part))
+ask_answer image hardware number len part = packed (asked_beside image hardware number len part)
 
 abbrev pub ask_leaves : List ℕ → ℕ → ℕ → ℕ → List ℕ → List ℕ
 ask_leaves image hardware number len part = leaves part_words (ask_image image hardware number len part) part
@@ -132,7 +130,7 @@ request_of w = record {
   floor = get_or w 4 0;
   uptime = get_or w 5 0;
   handle = get_or w 6 0;
-  token = record { there = is_yes (get_or w 7 0); kinds = get_or w 8 0; time = get_or w 9 0; challenge = get_or w 10 0 };
+  token = then_some (is_yes (get_or w 7 0)) (record { kinds = get_or w 8 0; time = get_or w 9 0; challenge = get_or w 10 0 });
   locked = is_yes (get_or w 11 0);
   present = is_yes (get_or w 12 0);
   confirmed = is_yes (get_or w 13 0);
@@ -147,8 +145,11 @@ permit_words p = p.hardware ∷ p.hardware_bits ∷ p.software ∷ p.software_bi
 unfoldable pub rule_image : List ℕ → List ℕ → List ℕ → Answer Permit
 rule_image image request permit = at_least 16 request (at_least 4 permit (of_image image (λ r. ruling r (request_of request))))
 
+abbrev pub rule_beside : List ℕ → List ℕ → List ℕ → Answer ℕ
+rule_beside image request permit = beside (λ p. 0) (rule_image image request permit)
+
 abbrev pub rule_answer : List ℕ → List ℕ → List ℕ → ℕ
-rule_answer image request permit = packed (beside (λ p. 0) (rule_image image request permit))
+rule_answer image request permit = packed (rule_beside image request permit)
 
 abbrev pub rule_leaves : List ℕ → List ℕ → List ℕ → List ℕ
 rule_leaves image request permit = leaves permit_words (rule_image image request permit) permit
@@ -158,8 +159,11 @@ rule_leaves image request permit = leaves permit_words (rule_image image request
 unfoldable pub enrol_image : List ℕ → List ℕ → List ℕ → Answer (Unit {0})
 enrol_image image s expected = of_image image (λ r. enrolled r s expected)
 
+abbrev pub enrol_beside : List ℕ → List ℕ → List ℕ → Answer ℕ
+enrol_beside image s expected = beside (λ u. 0) (enrol_image image s expected)
+
 abbrev pub enrol_answer : List ℕ → List ℕ → List ℕ → ℕ
-enrol_answer image s expected = packed (beside (λ u. 0) (enrol_image image s expected))
+enrol_answer image s expected = packed (enrol_beside image s expected)
 
 -- ---- sculldrip_list
 

@@ -4,7 +4,6 @@
 use Rattle.std.specs.Prelude.{◌≡◌, Bool, true, false, ◌&&◌, ◌||◌, List, [], ◌∷◌, ℕ, ◌/◌, ◌%◌, ◌≤◌, T, eqb, leb, length, drop}
 use Rattle.answer.specs.Answer.{Answer, got, refused}
 use Rattle.codec.specs.Octets.{Octets}
-use Rattle.reader.specs.declared.Outcome.{Outcome}
 use Rattle.reader.specs.Reading.{Reads}
 use Rattle.image.specs.Image.{record_of, words_fit}
 use Rattle.image.specs.Agree.{Agree}
@@ -97,7 +96,7 @@ SameEnrolled = (w w' s expected : List ℕ) → Agree w w' → enrol_answer w s 
 -- the image's own record is one of which all holds that is promised of a record read, and its words fit; the words after
 -- the first 410 are as they were
 pub record ReadImage (s old new : List ℕ) (n : ℕ) : Type 0 where
-  pub reads : Reads s (Outcome.Accepted n) (record_of new)
+  pub reads : Reads s (got n) (record_of new)
   pub fits : words_fit new ≡ true
   pub rest : drop 410 new ≡ drop 410 old
   pub sized : length new ≡ length old

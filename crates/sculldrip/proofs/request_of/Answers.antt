@@ -5,4 +5,4 @@ use Rattle.sculldrip.proofs.request_of.Goals as goal
 
 pub returns : goal.returns
 unfolding request_of
-returns c = refl
+returns c = rw c.then_some.ensures refl
