@@ -2,8 +2,8 @@
 """Writes what C and Rust say of refusals from docs/REFUSALS.md, the one source of their names, sentences and advice:
 include/sculldrip_refusals.h and bindings/rust/src/refusals.rs. A number that stands in several tables is told by the first.
 
-The names and numbers must be those of crates/answer/src/lib.rt. With --check nothing is written, and the exit status says
-whether both files are as this script would write them.
+The names and numbers must be those of `enum Refusal` in crates/answer/src/lib.rt. With --check nothing is written, and the
+exit status says whether both files are as this script would write them.
 """
 import os
 import re
@@ -37,7 +37,10 @@ def constant(name):
 
 
 def named_in_code():
-    return {int(number): name for name, number in re.findall(r"^pub const (\w+): u8 = (\d+);", text_of(NAMES), re.M)}
+    """The number and the name of each case of `enum Refusal`, the name as a constant is spelled: TooLong as TOO_LONG."""
+    cases = text_of(NAMES).split("\npub enum Refusal {\n")[1].split("\n}")[0]
+    named = re.findall(r"^    (\w+) = (\d+),$", cases, re.M)
+    return {int(number): re.sub(r"(?<=[a-z])(?=[A-Z])", "_", name).upper() for name, number in named}
 
 
 def quoted(text, indent):
