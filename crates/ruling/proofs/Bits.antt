@@ -23,13 +23,17 @@ module _ (mark : ℕ) (h : mark < 2 ^ 15) (b : Bool) where
   shifted : (mark * 2) % 65536 ≡ mark * 2
   shifted = mod-eq_of_lt (omega arith)
 
-  pub bit-joined : bit_or ((mark * 2) % 65536) (bool_byte b) ≡ bit b + 2 * mark
+  pub bit-set : b ≡ true → bit_or ((mark * 2) % 65536) 1 ≡ bit b + 2 * mark
   unfolding bit
-  bit-joined = go b
-    where
-      go : (b : Bool) → bit_or ((mark * 2) % 65536) (bool_byte b) ≡ bit b + 2 * mark
-      go true = rw (shifted, or_shifted mark 1 1 (lit< tt)) (omega arith)
-      go false = rw (shifted, or_zero_r (mark * 2)) (omega arith)
+  bit-set e = rw (e, shifted, or_shifted mark 1 1 (lit< tt)) (omega arith)
+
+  pub bit-clear : b ≡ false → (mark * 2) % 65536 ≡ bit b + 2 * mark
+  unfolding bit
+  bit-clear e = rw (e, shifted) (omega arith)
+
+pub bit-joined : (mark : ℕ) → mark < 2 ^ 15 → (b : Bool) → bit_or ((mark * 2) % 65536) (bool_byte b) ≡ bit b + 2 * mark
+bit-joined mark h true = bit-set mark h true refl
+bit-joined mark h false = rw (or_zero_r (mark * 2 % 65536)) (bit-clear mark h false refl)
 
 -- ---- a mark of n tags is below 2 ^ n
 
