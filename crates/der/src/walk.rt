@@ -112,7 +112,8 @@ fn quick_step(s: &[u8], at: usize, depth: usize, met: usize, most: usize) -> Opt
     Some(Past { next, met: met + 2 })
 }
 
-// The elements from at to the holder's end, one after the other: how many were met so far.
+// The elements from at to the holder's end, one after the other: how many were met so far. The place moves by what an element
+// takes, so no range has it.
 #[cycle(walk_element_walk_run)]
 fn walk_run(s: &[u8], at: usize, depth: usize, met: usize, most: usize) -> Result<usize, Refused>
     requires { at ≤ length s.now }

@@ -108,7 +108,7 @@ pub(crate) fn empty_list() -> FieldList
     }
 }
 
-// A set in the place that its row has.
+// A set in the place that its row has: 0 is that of purpose, 3 of digest, 4 of padding and 7 of mgfDigest.
 fn store_set(list: &mut FieldList, row: usize, g: NumberSet)
     requires { (row < row_count) × ((row_at row).kind ≡ set) }
     ensures { list.new ≡ with_set list.old row g }
@@ -187,7 +187,7 @@ fn store_field(
     }
 }
 
-// The fields from at to the holder's end, stored by their rows.
+// The fields from at to the holder's end, stored by their rows. The place moves by what a field takes, so no range has it.
 fn read_fields(s: &[u8], at: usize, version: u32, list: &mut FieldList) -> Result<(), Refused>
     requires { (at ≤ length s.now) × (list.old ≡ empty_list) }
     ensures { FieldsRead s.now at version list.new result }

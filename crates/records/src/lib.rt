@@ -1,5 +1,9 @@
 // A record: what an extension says, as plain values and flags, with each octet part as a place in a buffer that the
 // caller keeps. A caller may set any of it to anything; nothing here relies on its being well-shaped.
+//
+// Flags stand beside values, a count beside slots, and starts beside lengths, where an Option, a Vec or a slice would rule such
+// records out: cases/writer.jsonl gives 17 members and parts outside their buffer, and the theorems equal_contents and
+// not_looked_at speak of what stands where nothing is looked at. Versions and levels are numbers for the same reason.
 #![tactic(auto)]
 
 use schema::ROWS;
