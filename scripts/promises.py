@@ -86,7 +86,7 @@ def antt(folder, declares=antt_line):
     return set().union(*(in_blocks(text, ANTT_TYPE, declares) for text in texts))
 
 
-RATTLE_TYPE = re.compile(r"\s*(?:pub |pub\(crate\) )?(?:struct|enum|impl) (\w+)")
+RATTLE_TYPE = re.compile(r"\s*(?:pub |pub\(crate\) )?(?:struct|enum|impl(?:<[^>]*>)?) (\w+)")
 RATTLE_NAME = re.compile(r'\s*(?:pub |pub\(crate\) )?(?:extern "C" )?(fn|const) (\w+)')
 RATTLE_MEMBER = re.compile(r"    (?:pub |pub\(crate\) )?(\w+)\b")
 
