@@ -9,8 +9,8 @@
 
 ghost use Rattle.std.specs.Prelude.{◌<◌, ◌≤◌, length, IfOk};
 
-use der::walk::{Limits, Walked};
-use der_write::Put;
+use answer::Refused;
+use der::walk::Limits;
 use std::io;
 use std::io::Read;
 
@@ -43,14 +43,10 @@ fn say(rt: &HostRuntime, text: &[u8]) -> io::Result<()> {
     rt.write_all(text)
 }
 
-fn say_refusal(rt: &HostRuntime, number: u8, place: usize) -> io::Result<()> {
-    print!(rt; "refused {number} at {place}")
-}
-
-fn say_walked(rt: &HostRuntime, answer: Walked) -> io::Result<()> {
+fn say_walked(rt: &HostRuntime, answer: Result<usize, Refused>) -> io::Result<()> {
     match answer {
-        Walked::Accepted(n) => print!(rt; "elements {n}"),
-        Walked::Refused(number, place) => say_refusal(rt, number, place),
+        Ok(n) => print!(rt; "elements {n}"),
+        Err(refused) => print!(rt; "{refused}"),
     }
 }
 
@@ -58,15 +54,15 @@ fn say_octet(rt: &HostRuntime, x: u8) -> io::Result<()> {
     print!(rt; " {x:02x}")
 }
 
-fn say_put(rt: &HostRuntime, answer: Put) -> io::Result<()> {
+fn say_put(rt: &HostRuntime, answer: Result<usize, Refused>) -> io::Result<()> {
     match answer {
-        Put::Next(place) => print!(rt; "next {place}"),
-        Put::Refused(number, place) => say_refusal(rt, number, place),
+        Ok(place) => print!(rt; "next {place}"),
+        Err(refused) => print!(rt; "{refused}"),
     }
 }
 
 // The answer, and all of the output.
-fn say_written(rt: &HostRuntime, answer: Put, out: &[u8; 16]) -> io::Result<()> {
+fn say_written(rt: &HostRuntime, answer: Result<usize, Refused>, out: &[u8; 16]) -> io::Result<()> {
     say_put(rt, answer)?;
     let mut k: usize = 0;
     while k < 16 {

@@ -7,7 +7,6 @@ ghost use Rattle.codec.specs.Octets.{splice};
 ghost use Rattle.list_extension.specs.Shown.{shown};
 
 use extension_text::list_bytes;
-use listing::Listed;
 use std::io;
 use std::io::Read;
 
@@ -18,8 +17,8 @@ fn list_whole(s: &[u8], text: &mut [u8; 491520]) -> usize
     ensures inside { result ≤ length text.new }
 {
     match list_bytes(s, text) {
-        Listed::Wrote(n) => n,
-        Listed::Short => 0,
+        Ok(n) => n,
+        Err(_) => 0,
     }
 }
 

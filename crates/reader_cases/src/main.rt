@@ -7,8 +7,8 @@
 
 ghost use Rattle.std.specs.Prelude.{◌<◌, ◌≤◌, length, IfOk};
 
+use answer::Refused;
 use extension_text::list_bytes;
-use listing::Listed;
 use std::io;
 use std::io::Read;
 
@@ -38,10 +38,10 @@ fn part(s: &[u8], a: usize, e: usize) -> &[u8] {
     }
 }
 
-fn say_listed(rt: &HostRuntime, listed: Listed, text: &[u8]) -> io::Result<()> {
+fn say_listed(rt: &HostRuntime, listed: Result<usize, Refused>, text: &[u8]) -> io::Result<()> {
     match listed {
-        Listed::Wrote(n) => say(rt, part(text, 0, n)),
-        Listed::Short => say(rt, b"short output\n"),
+        Ok(n) => say(rt, part(text, 0, n)),
+        Err(_) => say(rt, b"short output\n"),
     }
 }
 

@@ -114,8 +114,7 @@ fn with_field(list: FieldList, s: &[u8], at: usize) -> FieldList
 {
     let number = word(s, at) as usize;
     let mut l = with_inner(list, s, at, number);
-    let row = schema::row_of(number);
-    if row < ROWS {
+    if let Some(row) = schema::row_of(number) {
         l.present[row] = flag(s, at + 8);
         l.values[row] = word(s, at + 16);
         l.sizes[row] = word(s, at + 24);

@@ -2,24 +2,21 @@
 ghost use Rattle.std.specs.Prelude.{◌<◌};
 
 use crate::input::{flag, part, small, word};
-use crate::say::{say, say_number, say_refused};
-use enrolment::Enrolment;
-use octet_fields::Asked;
-use records::Record;
-use ruling::Ruling;
+use crate::say::{say, say_number};
+use records::{Part, Record};
+use ruling::Permit;
 use ruling::request::{Request, Token};
 use std::io;
 
 // There or not, type bits, time and challenge.
-fn token_at(s: &[u8], at: usize) -> Token
+fn token_at(s: &[u8], at: usize) -> Option<Token>
     requires { at < 0x1_0000_0000 }
 {
-    Token {
-        there: flag(s, at),
+    flag(s, at).then_some(Token {
         kinds: word(s, at + 8),
         time: word(s, at + 16),
         challenge: word(s, at + 24),
-    }
+    })
 }
 
 // Sixteen words, in the order of document 01's sentence.
@@ -56,20 +53,19 @@ pub(crate) fn say_use(rt: &HostRuntime, r: Record, s: &[u8], at: usize) -> io::R
     requires { at < 0x1000_0000 }
 {
     match ruling::rule(r, request_at(s, at)) {
-        Ruling::Permit {
-            hardware,
-            hardware_bits,
-            software,
-            software_bits,
-        } => {
+        Ok(
+            Permit {
+                hardware,
+                hardware_bits,
+                software,
+                software_bits,
+            },
+        ) => {
             say_mark(rt, b"permit hardware ", hardware, hardware_bits)?;
             say_mark(rt, b" software ", software, software_bits)?;
             say(rt, b"\n")
         }
-        Ruling::Refused(number, place) => {
-            say_refused(rt, number, place)?;
-            say(rt, b"\n")
-        }
+        Err(refused) => println!(rt; "{refused}"),
     }
 }
 
@@ -85,11 +81,8 @@ pub(crate) fn say_enrolment(
 {
     let expected = part(s, at + 8, at + 8 + small(s, at));
     match enrolment::enrol(r, buffer, expected) {
-        Enrolment::Enrolled => say(rt, b"yes\n"),
-        Enrolment::Refused(number, place) => {
-            say_refused(rt, number, place)?;
-            say(rt, b"\n")
-        }
+        Ok(()) => say(rt, b"yes\n"),
+        Err(refused) => println!(rt; "{refused}"),
     }
 }
 
@@ -100,17 +93,14 @@ pub(crate) fn say_octets(rt: &HostRuntime, r: Record, s: &[u8], at: usize) -> io
     let number = word(s, at + 8) as usize;
     let len = word(s, at + 16) as usize;
     match octet_fields::ask_octets(r, flag(s, at), number, len) {
-        Asked::At(start, size) => {
+        Ok(Some(Part { start, len: size })) => {
             say(rt, b"part ")?;
             say_number(rt, start as u64)?;
             say(rt, b" ")?;
             say_number(rt, size as u64)?;
             say(rt, b"\n")
         }
-        Asked::Absent => say(rt, b"absent\n"),
-        Asked::Refused(number, place) => {
-            say_refused(rt, number, place)?;
-            say(rt, b"\n")
-        }
+        Ok(None) => say(rt, b"absent\n"),
+        Err(refused) => println!(rt; "{refused}"),
     }
 }

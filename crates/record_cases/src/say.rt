@@ -20,10 +20,3 @@ pub(crate) fn say_hex(rt: &HostRuntime, t: &[u8]) -> io::Result<()> {
     }
     Ok(())
 }
-
-pub(crate) fn say_refused(rt: &HostRuntime, number: u8, place: usize) -> io::Result<()> {
-    say(rt, b"refused ")?;
-    say_number(rt, number as u64)?;
-    say(rt, b" at ")?;
-    say_number(rt, place as u64)
-}

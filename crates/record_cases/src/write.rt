@@ -1,11 +1,10 @@
 // Writing: the answer, whether each byte that may not change is as it was, and the listing of what is read back.
 use crate::input::part;
-use crate::say::{say, say_hex, say_number, say_refused};
-use listing::Listed;
-use reader::Outcome;
+use crate::say::{say, say_hex, say_number};
+use answer::Refused;
+use reader::Reading;
 use records::Record;
 use std::io;
-use writer::Written;
 
 // What stands in the output before a write.
 fn filler(i: usize) -> u8 {
@@ -47,10 +46,10 @@ fn same(a: &[u8], b: &[u8]) -> bool {
 }
 
 // The text that a listing left in out.
-fn listed<'a>(answer: Listed, out: &'a [u8]) -> &'a [u8] {
+fn listed<'a>(answer: Result<usize, Refused>, out: &'a [u8]) -> &'a [u8] {
     match answer {
-        Listed::Wrote(n) => part(out, 0, n),
-        Listed::Short => part(out, 0, 0),
+        Ok(n) => part(out, 0, n),
+        Err(_) => part(out, 0, 0),
     }
 }
 
@@ -63,12 +62,10 @@ fn say_reading(
     a: &mut [u8],
     b: &mut [u8],
 ) -> io::Result<()> {
-    let reading = reader::read(encoding);
-    let outcome = reading.outcome;
-    match outcome {
-        Outcome::Accepted(n) => {
-            let read = listing::list_record(reading.said, n, encoding, a);
-            let written = listing::list_record(r, n, buffer, b);
+    match reader::read(encoding) {
+        Ok(Reading { elements, said }) => {
+            let read = listing::list_record(said, elements, encoding, a);
+            let written = listing::list_record(r, elements, buffer, b);
             say(rt, listed(read, a))?;
             if same(listed(read, a), listed(written, b)) {
                 say(rt, b"as written\n")
@@ -76,12 +73,12 @@ fn say_reading(
                 say(rt, b"other than written\n")
             }
         }
-        Outcome::Refused(_, _) => say(rt, b"not read\n"),
+        Err(_) => say(rt, b"not read\n"),
     }
 }
 
 // Writes the record into the first room bytes of the output, once that is filled.
-fn write_into(r: Record, buffer: &[u8], out: &mut [u8], room: usize) -> Written {
+fn write_into(r: Record, buffer: &[u8], out: &mut [u8], room: usize) -> Result<usize, Refused> {
     fill(out);
     if room <= out.len() {
         return writer::write(r, buffer, &mut out[..room]);
@@ -92,7 +89,7 @@ fn write_into(r: Record, buffer: &[u8], out: &mut [u8], room: usize) -> Written 
 // Says what writing the record answered and left.
 fn say_answer(
     rt: &HostRuntime,
-    answer: Written,
+    answer: Result<usize, Refused>,
     r: Record,
     buffer: &[u8],
     out: &[u8],
@@ -100,7 +97,7 @@ fn say_answer(
     b: &mut [u8],
 ) -> io::Result<()> {
     match answer {
-        Written::Wrote(n) => {
+        Ok(n) => {
             say(rt, b"wrote ")?;
             say_number(rt, n as u64)?;
             say(rt, b" ")?;
@@ -109,8 +106,8 @@ fn say_answer(
             say_kept(rt, out, n)?;
             say_reading(rt, r, buffer, part(out, 0, n), a, b)
         }
-        Written::Refused(number, place) => {
-            say_refused(rt, number, place)?;
+        Err(refused) => {
+            print!(rt; "{refused}")?;
             say(rt, b" output ")?;
             say_kept(rt, out, 0)
         }
