@@ -10,177 +10,92 @@
 ghost use Rattle.std.specs.Prelude.{◌<◌, ◌≤◌, length, IfOk};
 
 use answer::Refused;
-use der::walk::Limits;
+use case_input::{Input, read_full};
+use der::walk::{Limits, walk};
+use der_write::{put_header, put_integer};
 use std::io;
-use std::io::Read;
 
-fn wide(x: u8) -> usize
-    ensures { result < 256 }
-{
-    x as usize
-}
-
-// The octet at at, or 0 past the end.
-fn octet(s: &[u8], at: usize) -> usize
-    ensures { result < 256 }
-{
-    if at < s.len() { wide(s[at]) } else { 0 }
-}
-
-// Eight octets from at on, highest first.
-fn word(s: &[u8], at: usize) -> u64 {
-    let mut value: u64 = 0;
-    let mut k: usize = 0;
-    while k < 8 {
-        let place = at % 0x1_0000_0000 + k;
-        value = value % 0x100_0000_0000_0000 * 256 + octet(s, place) as u64;
-        k += 1;
-    }
-    value
-}
-
-fn say(rt: &HostRuntime, text: &[u8]) -> io::Result<()> {
-    rt.write_all(text)
-}
-
-fn say_walked(rt: &HostRuntime, answer: Result<usize, Refused>) -> io::Result<()> {
+// A number after what it is, or the refusal.
+fn say_answer(rt: &HostRuntime, what: &str, answer: Result<usize, Refused>) -> io::Result<()> {
     match answer {
-        Ok(n) => print!(rt; "elements {n}"),
+        Ok(n) => print!(rt; "{what} {n}"),
         Err(refused) => print!(rt; "{refused}"),
     }
 }
 
-fn say_octet(rt: &HostRuntime, x: u8) -> io::Result<()> {
-    print!(rt; " {x:02x}")
-}
-
-fn say_put(rt: &HostRuntime, answer: Result<usize, Refused>) -> io::Result<()> {
-    match answer {
-        Ok(place) => print!(rt; "next {place}"),
-        Err(refused) => print!(rt; "{refused}"),
+// The next place or the refusal, and all of the output.
+fn say_written(rt: &HostRuntime, answer: Result<usize, Refused>, out: &[u8]) -> io::Result<()> {
+    say_answer(rt, "next", answer)?;
+    for octet in out {
+        print!(rt; " {octet:02x}")?;
     }
+    println!(rt)
 }
 
-// The answer, and all of the output.
-fn say_written(rt: &HostRuntime, answer: Result<usize, Refused>, out: &[u8; 16]) -> io::Result<()> {
-    say_put(rt, answer)?;
-    let mut k: usize = 0;
-    while k < 16 {
-        say_octet(rt, out[k])?;
-        k += 1;
-    }
-    Ok(())
-}
-
-// The part of s from a to e, or nothing where it does not lie in s.
-fn part(s: &[u8], a: usize, e: usize) -> &[u8] {
-    if a <= e && e <= s.len() {
-        &s[a..e]
-    } else {
-        &s[0..0]
-    }
-}
-
-// The place after what the case has, no less than at.
-fn walk_case(rt: &HostRuntime, s: &[u8], at: usize) -> io::Result<usize>
-    requires { at < 0x1_0000_0000 }
-    ensures { IfOk result (λ after. at ≤ after) }
+fn walk_case(rt: &HostRuntime, input: &mut Input) -> io::Result<()>
+    ensures { length input.new.rest.now ≤ length input.old.rest.now }
 {
     let limits = Limits {
-        bytes: word(s, at) as usize,
-        depth: word(s, at + 8) as usize,
-        elements: word(s, at + 16) as usize,
+        bytes: input.word() as usize,
+        depth: input.word() as usize,
+        elements: input.word() as usize,
     };
-    let size = (word(s, at + 24) % 0x1_0000_0000) as usize;
-    let start = at + 32;
-    let stop = start + size;
-    say_walked(rt, der::walk::walk(part(s, start, stop), limits))?;
-    say(rt, b"\n")?;
-    Ok(stop)
+    let size = (input.word() % 0x1_0000_0000) as usize;
+    say_answer(rt, "elements", walk(input.octets(size), limits))?;
+    println!(rt)
 }
 
-fn header_case(rt: &HostRuntime, s: &[u8], at: usize) -> io::Result<usize>
-    requires { at < 0x1_0000_0000 }
-    ensures { IfOk result (λ after. at ≤ after) }
+fn header_case(rt: &HostRuntime, input: &mut Input) -> io::Result<()>
+    ensures { length input.new.rest.now ≤ length input.old.rest.now }
 {
-    let mut out = [0xeeu8; 16];
-    let n = (word(s, at) % 17) as usize;
-    let place = word(s, at + 8) as usize;
-    let form = (word(s, at + 16) % 256) as u8;
-    let number = word(s, at + 24) as usize;
-    let size = word(s, at + 32) as usize;
-    let answer = der_write::put_header(&mut out[..n], place, form, number, size);
-    say_written(rt, answer, &out)?;
-    say(rt, b"\n")?;
-    Ok(at + 40)
+    let mut out = [0xee; 16];
+    let room = (input.word() % 17) as usize;
+    let at = input.word() as usize;
+    let form = (input.word() % 256) as u8;
+    let number = input.word() as usize;
+    let size = input.word() as usize;
+    let answer = put_header(&mut out[..room], at, form, number, size);
+    say_written(rt, answer, &out)
 }
 
-fn integer_case(rt: &HostRuntime, s: &[u8], at: usize) -> io::Result<usize>
-    requires { at < 0x1_0000_0000 }
-    ensures { IfOk result (λ after. at ≤ after) }
+fn integer_case(rt: &HostRuntime, input: &mut Input) -> io::Result<()>
+    ensures { length input.new.rest.now ≤ length input.old.rest.now }
 {
-    let mut out = [0xeeu8; 16];
-    let n = (word(s, at) % 17) as usize;
-    let place = word(s, at + 8) as usize;
-    let answer = der_write::put_integer(&mut out[..n], place, word(s, at + 16));
-    say_written(rt, answer, &out)?;
-    say(rt, b"\n")?;
-    Ok(at + 24)
+    let mut out = [0xee; 16];
+    let room = (input.word() % 17) as usize;
+    let at = input.word() as usize;
+    let answer = put_integer(&mut out[..room], at, input.word());
+    say_written(rt, answer, &out)
 }
 
-// Runs the case at at, and answers the place after it.
-fn one_case(rt: &HostRuntime, s: &[u8], at: usize) -> io::Result<usize>
-    requires { at < 0x1000_0000 }
-    ensures { IfOk result (λ after. at < after) }
+// Runs the next case.
+fn one_case(rt: &HostRuntime, input: &mut Input) -> io::Result<()>
+    requires { 0 < length input.old.rest.now }
+    ensures { length input.new.rest.now < length input.old.rest.now }
 {
-    let kind = octet(s, at);
-    let start = at + 2;
-    let body = start + octet(s, at + 1);
-    say(rt, part(s, start, body))?;
-    say(rt, b": ")?;
-    if kind == 119 {
-        return walk_case(rt, s, body);
+    let kind = input.octet();
+    let size = input.octet() as usize;
+    rt.write_all(input.octets(size))?;
+    print!(rt; ": ")?;
+    match kind {
+        b'w' => walk_case(rt, input),
+        b'h' => header_case(rt, input),
+        b'i' => integer_case(rt, input),
+        _ => println!(rt; "no such kind"),
     }
-    if kind == 104 {
-        return header_case(rt, s, body);
-    }
-    if kind == 105 {
-        return integer_case(rt, s, body);
-    }
-    say(rt, b"no such kind\n")?;
-    Ok(body)
 }
 
 fn all_cases(rt: &HostRuntime, s: &[u8]) -> io::Result<()> {
-    let end = s.len();
-    if 0x1000_0000 <= end {
-        return Ok(());
-    }
-    let mut at: usize = 0;
-    while at < end {
-        at = one_case(rt, s, at)?;
+    let mut input = Input { rest: s };
+    while !input.rest.is_empty() {
+        one_case(rt, &mut input)?;
     }
     Ok(())
 }
 
-// Reads until buf is full or the input ends, and answers how many octets stand at its front.
-fn read_full(rt: &HostRuntime, buf: &mut [u8]) -> io::Result<usize>
-    ensures { IfOk result (λ n. n ≤ length buf.new) }
-{
-    let mut input = rt.stdin();
-    let mut done: usize = 0;
-    while done < buf.len() {
-        let n = input.read(&mut buf[done..])?;
-        if n == 0 {
-            break;
-        }
-        done += n;
-    }
-    Ok(done)
-}
-
 fn main(rt: HostRuntime) -> io::Result<()> {
-    let mut input = [0u8; 262144];
+    // Fixed memory: no heap, so the input is what this buffer holds.
+    let mut input = [0; 262144];
     let n = read_full(&rt, &mut input)?;
     all_cases(&rt, &input[..n])
 }

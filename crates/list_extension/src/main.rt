@@ -2,13 +2,13 @@
 // stands in one buffer of 8,193 zeros, so that one byte too many is seen.
 #![tactic(auto)]
 
-ghost use Rattle.std.specs.Prelude.{◌≡◌, ◌≤◌, length, IfOk};
+ghost use Rattle.std.specs.Prelude.{◌≡◌, ◌≤◌, length};
 ghost use Rattle.codec.specs.Octets.{splice};
 ghost use Rattle.list_extension.specs.Shown.{shown};
 
+use case_input::read_full;
 use extension_text::list_bytes;
 use std::io;
-use std::io::Read;
 
 // The whole listing of any bytes s, at the front of a text that is never short; how long it is.
 fn list_whole(s: &[u8], text: &mut [u8; 491520]) -> usize
@@ -22,23 +22,8 @@ fn list_whole(s: &[u8], text: &mut [u8; 491520]) -> usize
     }
 }
 
-// Reads until buf is full or the input ends, and answers how many octets stand at its front.
-fn read_full(rt: &HostRuntime, buf: &mut [u8]) -> io::Result<usize>
-    ensures { IfOk result (λ n. n ≤ length buf.new) }
-{
-    let mut input = rt.stdin();
-    let mut done: usize = 0;
-    while done < buf.len() {
-        let n = input.read(&mut buf[done..])?;
-        if n == 0 {
-            break;
-        }
-        done += n;
-    }
-    Ok(done)
-}
-
 fn main(rt: HostRuntime) -> io::Result<()> {
+    // Fixed memory: no heap.
     let mut input = [0u8; 8193];
     let mut text = [0u8; 491520];
     let n = read_full(&rt, &mut input)?;

@@ -2,57 +2,54 @@
 // software list has and how many octets they take here, and the same of the hardware list; how long the buffer is; then
 // the fields of the one and of the other, and the buffer. A field is its number, 1 where it is present, its value or start
 // or count, its length, how many words follow, and those: a set's slots, or the rest of 704.
-ghost use Rattle.std.specs.Prelude.{◌<◌};
-
-use crate::input::{flag, narrow, part, small, word};
+use crate::input::{flag, narrow, small};
+use case_input::Input;
 use records::{FieldList, NumberSet, Part, Record, RootOfTrust, Security};
 use schema::ROWS;
 
-// The part whose start and length stand at at.
-fn part_at(s: &[u8], at: usize) -> Part
-    requires { at < 0x2_0000_0000 }
-{
+// A record and the buffer that its parts lie in.
+#[derive(Drop)]
+pub(crate) struct Held<'a> {
+    pub(crate) record: Record,
+    pub(crate) buffer: &'a [u8],
+}
+
+fn part_of(input: &mut Input) -> Part {
     Part {
-        start: word(s, at) as usize,
-        len: word(s, at + 8) as usize,
+        start: input.word() as usize,
+        len: input.word() as usize,
     }
 }
 
-fn security_at(s: &[u8], at: usize) -> Security
-    requires { at < 0x2_0000_0000 }
-{
+fn security_of(input: &mut Input) -> Security {
     Security {
-        version: narrow(s, at),
-        level: narrow(s, at + 8),
+        version: narrow(input),
+        level: narrow(input),
     }
 }
 
-// The set of a field: its count stands where a number would. Slots that are not told hold what stands there.
-fn set_at(s: &[u8], at: usize) -> NumberSet
-    requires { at < 0x1_0000_0000 }
-{
-    let mut members: [u32; 16] = [0; 16];
-    let mut i: usize = 0;
-    while i < 16 {
-        members[i] = narrow(s, at + 40 + 8 * i);
-        i += 1;
+// A set of this count, whose slots come next. Slots that are not told hold what stands there.
+fn set_of(slots: Input, count: u64) -> NumberSet {
+    let mut input = slots;
+    let mut members = [0; 16];
+    for member in &mut members {
+        *member = narrow(&mut input);
     }
     NumberSet {
         members,
-        count: word(s, at + 16) as usize,
+        count: count as usize,
     }
 }
 
-// The root of trust of a field: its key stands where an octet field's part would.
-fn root_at(s: &[u8], at: usize) -> RootOfTrust
-    requires { at < 0x1_0000_0000 }
-{
+// A root of trust with this key, whose other values come next.
+fn root_of(others: Input, key: Part) -> RootOfTrust {
+    let mut input = others;
     RootOfTrust {
-        key: part_at(s, at + 16),
-        locked: flag(s, at + 40),
-        state: narrow(s, at + 48),
-        hashed: flag(s, at + 56),
-        hash: part_at(s, at + 64),
+        key,
+        locked: flag(&mut input),
+        state: narrow(&mut input),
+        hashed: flag(&mut input),
+        hash: part_of(&mut input),
     }
 }
 
@@ -80,83 +77,70 @@ fn empty_list() -> FieldList {
     }
 }
 
-// A list with what a set's field or 704 has besides its presence.
-fn with_inner(list: FieldList, s: &[u8], at: usize, number: usize) -> FieldList
-    requires { at < 0x1_0000_0000 }
-{
-    let mut l = list;
-    if number == 1 {
-        l.purpose = set_at(s, at);
-        return l;
+// Puts the next field into a list. A number that the table lacks has no place in a list.
+fn put_field(list: &mut FieldList, input: &mut Input) {
+    let number = input.word() as usize;
+    let present = flag(input);
+    let value = input.word();
+    let size = input.word();
+    let words = small(input);
+    match number {
+        1 => list.purpose = set_of(*input, value),
+        5 => list.digest = set_of(*input, value),
+        6 => list.padding = set_of(*input, value),
+        203 => list.mgf = set_of(*input, value),
+        704 => {
+            let key = Part {
+                start: value as usize,
+                len: size as usize,
+            };
+            list.root = root_of(*input, key);
+        }
+        _ => (),
     }
-    if number == 5 {
-        l.digest = set_at(s, at);
-        return l;
-    }
-    if number == 6 {
-        l.padding = set_at(s, at);
-        return l;
-    }
-    if number == 203 {
-        l.mgf = set_at(s, at);
-        return l;
-    }
-    if number == 704 {
-        l.root = root_at(s, at);
-        return l;
-    }
-    l
-}
-
-// A list with the field at at. A number that the table lacks has no place in a list.
-fn with_field(list: FieldList, s: &[u8], at: usize) -> FieldList
-    requires { at < 0x1_0000_0000 }
-{
-    let number = word(s, at) as usize;
-    let mut l = with_inner(list, s, at, number);
     if let Some(row) = schema::row_of(number) {
-        l.present[row] = flag(s, at + 8);
-        l.values[row] = word(s, at + 16);
-        l.sizes[row] = word(s, at + 24);
+        list.present[row] = present;
+        list.values[row] = value;
+        list.sizes[row] = size;
     }
-    l
+    input.octets(8 * words);
 }
 
-// The list of the n fields from at on.
-fn list_at(s: &[u8], at: usize, n: usize) -> FieldList
-    requires { (at < 0x1000_0000) × (n < 0x10_0000) }
-{
+// The list of the next n fields.
+fn list_of(fields: Input, n: usize) -> FieldList {
+    let mut input = fields;
     let mut list = empty_list();
-    let mut place = at;
-    let mut k: usize = 0;
-    while k < n {
-        list = with_field(list, s, place);
-        place = (place + 40 + 8 * small(s, place + 32)) % 0x1000_0000;
-        k += 1;
+    for _ in 0..n {
+        put_field(&mut list, &mut input);
     }
     list
 }
 
-// The record at at.
-pub(crate) fn record_at(s: &[u8], at: usize) -> Record
-    requires { at < 0x10_0000 }
-{
-    let software = at + 104;
-    let hardware = software + small(s, at + 72);
-    Record {
-        attestation: security_at(s, at),
-        keymint: security_at(s, at + 16),
-        challenge: part_at(s, at + 32),
-        unique: part_at(s, at + 48),
-        software: list_at(s, software, small(s, at + 64)),
-        hardware: list_at(s, hardware, small(s, at + 80)),
+// The record that comes next, and its buffer.
+pub(crate) fn held_at<'a>(place: Input<'a>) -> Held<'a> {
+    let mut input = place;
+    let attestation = security_of(&mut input);
+    let keymint = security_of(&mut input);
+    let challenge = part_of(&mut input);
+    let unique = part_of(&mut input);
+    let software_fields = small(&mut input);
+    let software_size = small(&mut input);
+    let hardware_fields = small(&mut input);
+    let hardware_size = small(&mut input);
+    let size = small(&mut input);
+    let software = list_of(input, software_fields);
+    input.octets(software_size);
+    let hardware = list_of(input, hardware_fields);
+    input.octets(hardware_size);
+    Held {
+        record: Record {
+            attestation,
+            keymint,
+            challenge,
+            unique,
+            software,
+            hardware,
+        },
+        buffer: input.octets(size),
     }
-}
-
-// The buffer of the record at at.
-pub(crate) fn buffer_at(s: &[u8], at: usize) -> &[u8]
-    requires { at < 0x10_0000 }
-{
-    let start = at + 104 + small(s, at + 72) + small(s, at + 88);
-    part(s, start, start + small(s, at + 96))
 }

@@ -1,129 +1,99 @@
 // Writing: the answer, whether each byte that may not change is as it was, and the listing of what is read back.
-use crate::input::part;
-use crate::say::{say, say_hex, say_number};
+use crate::record::Held;
 use answer::Refused;
+use case_input::front;
+use listing::list_record;
 use reader::Reading;
-use records::Record;
 use std::io;
 
+// The texts of what is read back and of what was written.
+#[derive(Drop)]
+pub(crate) struct Texts<'a> {
+    pub(crate) read: &'a mut [u8],
+    pub(crate) written: &'a mut [u8],
+}
+
 // What stands in the output before a write.
-fn filler(i: usize) -> u8 {
-    (i % 251) as u8
+fn filler(place: usize) -> u8 {
+    (place % 251) as u8
 }
 
 fn fill(out: &mut [u8]) {
-    let mut i: usize = 0;
-    while i < out.len() {
-        out[i] = filler(i);
-        i += 1;
+    for (place, octet) in out.iter_mut().enumerate() {
+        *octet = filler(place);
     }
 }
 
 // Says whether each byte of out from a place on is as it was.
 fn say_kept(rt: &HostRuntime, out: &[u8], from: usize) -> io::Result<()> {
-    let mut i = from;
-    while i < out.len() {
-        if out[i] != filler(i) {
-            return say(rt, b"changed\n");
-        }
-        i += 1;
-    }
-    say(rt, b"kept\n")
-}
-
-fn same(a: &[u8], b: &[u8]) -> bool {
-    if a.len() != b.len() {
-        return false;
-    }
-    let mut i: usize = 0;
-    while i < a.len() {
-        if a[i] != b[i] {
-            return false;
-        }
-        i += 1;
-    }
-    true
-}
-
-// The text that a listing left in out.
-fn listed<'a>(answer: Result<usize, Refused>, out: &'a [u8]) -> &'a [u8] {
-    match answer {
-        Ok(n) => part(out, 0, n),
-        Err(_) => part(out, 0, 0),
+    let mut rest = out.iter().enumerate().skip(from);
+    if rest.all(|(place, octet)| *octet == filler(place)) {
+        println!(rt; "kept")
+    } else {
+        println!(rt; "changed")
     }
 }
 
-// Lists what is read back from an encoding, and says whether the record that was written lists the same.
+// The text that a listing left in out; none where it had no room.
+fn listed(answer: Result<usize, Refused>, out: &[u8]) -> &[u8] {
+    front(out, answer.unwrap_or(0))
+}
+
+// Says what was read back, and whether what was written lists the same.
+fn say_texts(
+    rt: &HostRuntime,
+    texts: &Texts,
+    read: Result<usize, Refused>,
+    written: Result<usize, Refused>,
+) -> io::Result<()> {
+    let read = listed(read, texts.read);
+    rt.write_all(read)?;
+    if read == listed(written, texts.written) {
+        println!(rt; "as written")
+    } else {
+        println!(rt; "other than written")
+    }
+}
+
+// Lists what is read back from an encoding, and the record that was written.
 fn say_reading(
     rt: &HostRuntime,
-    r: Record,
-    buffer: &[u8],
+    held: &Held,
     encoding: &[u8],
-    a: &mut [u8],
-    b: &mut [u8],
+    texts: &mut Texts,
 ) -> io::Result<()> {
-    match reader::read(encoding) {
-        Ok(Reading { elements, said }) => {
-            let read = listing::list_record(said, elements, encoding, a);
-            let written = listing::list_record(r, elements, buffer, b);
-            say(rt, listed(read, a))?;
-            if same(listed(read, a), listed(written, b)) {
-                say(rt, b"as written\n")
-            } else {
-                say(rt, b"other than written\n")
-            }
-        }
-        Err(_) => say(rt, b"not read\n"),
-    }
+    let Ok(Reading { elements, said }) = reader::read(encoding) else {
+        return println!(rt; "not read");
+    };
+    let read = list_record(said, elements, encoding, texts.read);
+    let written = list_record(held.record, elements, held.buffer, texts.written);
+    say_texts(rt, texts, read, written)
 }
 
-// Writes the record into the first room bytes of the output, once that is filled.
-fn write_into(r: Record, buffer: &[u8], out: &mut [u8], room: usize) -> Result<usize, Refused> {
-    fill(out);
-    if room <= out.len() {
-        return writer::write(r, buffer, &mut out[..room]);
-    }
-    writer::write(r, buffer, out)
-}
-
-// Says what writing the record answered and left.
-fn say_answer(
+// Says what writing the record into size bytes of the output answers and leaves, once that is filled, and what is read back.
+pub(crate) fn say_write(
     rt: &HostRuntime,
-    answer: Result<usize, Refused>,
-    r: Record,
-    buffer: &[u8],
-    out: &[u8],
-    a: &mut [u8],
-    b: &mut [u8],
+    held: &Held,
+    size: usize,
+    out: &mut [u8],
+    texts: &mut Texts,
 ) -> io::Result<()> {
-    match answer {
+    fill(out);
+    let size = size.min(out.len());
+    match writer::write(held.record, held.buffer, &mut out[..size]) {
         Ok(n) => {
-            say(rt, b"wrote ")?;
-            say_number(rt, n as u64)?;
-            say(rt, b" ")?;
-            say_hex(rt, part(out, 0, n))?;
-            say(rt, b" rest ")?;
+            let encoding = front(out, n);
+            print!(rt; "wrote {n} ")?;
+            for octet in encoding {
+                print!(rt; "{octet:02x}")?;
+            }
+            print!(rt; " rest ")?;
             say_kept(rt, out, n)?;
-            say_reading(rt, r, buffer, part(out, 0, n), a, b)
+            say_reading(rt, held, encoding, texts)
         }
         Err(refused) => {
-            print!(rt; "{refused}")?;
-            say(rt, b" output ")?;
+            print!(rt; "{refused} output ")?;
             say_kept(rt, out, 0)
         }
     }
-}
-
-// Says what writing the record into room bytes answers and leaves, and what is read back.
-pub(crate) fn say_write(
-    rt: &HostRuntime,
-    r: Record,
-    buffer: &[u8],
-    room: usize,
-    out: &mut [u8],
-    a: &mut [u8],
-    b: &mut [u8],
-) -> io::Result<()> {
-    let answer = write_into(r, buffer, out, room);
-    say_answer(rt, answer, r, buffer, out, a, b)
 }

@@ -1,6 +1,6 @@
--- Each case goes on by an octet at least.
-use Rattle.std.proofs.Common.{◌-◌}
+-- Each case takes an octet at least.
+use Rattle.std.proofs.Common.{length}
 use Rattle.der_cases.proofs.all_cases.Given as goal
 
-abbrev pub decreases-loop-at : goal.decreases-loop-at
-decreases-loop-at l = l.end - l.at
+abbrev pub decreases-loop-input : goal.decreases-loop-input
+decreases-loop-input l = length l.input.rest.now

@@ -1,9 +1,0 @@
--- It counts to the number of cases.
-use Rattle.std.proofs.Common.{◌-◌, ◌≤◌}
-use Rattle.record_cases.proofs.all_cases.Given as goal
-
-abbrev pub invariant-loop-k : goal.invariant-loop-k
-invariant-loop-k l = l.k ≤ l.n
-
-abbrev pub decreases-loop-k : goal.decreases-loop-k
-decreases-loop-k l = l.n - l.k

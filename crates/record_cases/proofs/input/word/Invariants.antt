@@ -1,9 +1,0 @@
--- Eight turns.
-use Rattle.std.proofs.Common.{◌-◌, ◌≤◌}
-use Rattle.record_cases.proofs.input.word.Given as goal
-
-abbrev pub invariant-loop-k : goal.invariant-loop-k
-invariant-loop-k l = l.k ≤ 8
-
-abbrev pub decreases-loop-k : goal.decreases-loop-k
-decreases-loop-k l = 8 - l.k
