@@ -49,7 +49,7 @@ extern "C" {
 /* The room that is enough for the listing of a refusal. */
 #define SCULLDRIP_REFUSED_LISTING_BYTES 64
 
-/* The stack that is enough for every call. Measured, in KB: read 8, list 8, write 11, rule 14, octets 12, enrol 12; and 3
+/* The stack that is enough for every call. Measured, in KB: read 8, list 8, write 8, rule 13, octets 8, enrol 12; and 3
  * more in a program's first call, where the linker finds memcpy only then. */
 #define SCULLDRIP_STACK_BYTES 32768
 
