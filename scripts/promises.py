@@ -182,7 +182,7 @@ def readme():
     """Paths under "Where to read on", and names in backquotes, each declared in the file named last before it."""
     section = text_of(README).split("\n## Where to read on\n")[1].split("\n## ")[0]
     faults, path = [], ""
-    for word in re.findall(r"`[^`]+`|(?:crates|docs)/[\w./]*\w|(?:specs|proofs)/\w+\.antt", section):
+    for word in re.findall(r"`[^`]+`|(?:crates|docs)/[\w./-]*\w|(?:specs|proofs)/\w+\.antt", section):
         if word.startswith("`"):
             if exists(path) and word[1:-1] not in in_blocks(text_of(path), ANTT_TYPE, antt_line):
                 faults.append("%s: %s declares no %s" % (README, path, word))

@@ -12,7 +12,7 @@ use crate::taken::Taken;
 use answer::{Refusal, Refused};
 use records::Part;
 
-// The number that at most eight octets spell, the highest first.
+// The number that at most eight octets spell, the highest first. A sum, since `from_be_bytes` takes eight and no fewer.
 fn spelled(octets: &[u8]) -> u64
     requires { length octets.now ≤ 8 }
     ensures { result ≡ big_endian octets.now }

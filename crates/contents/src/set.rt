@@ -22,7 +22,8 @@ pub fn empty_set() -> NumberSet
     }
 }
 
-// The members from at to the holder's end: "A member: 14, 9, 10, 13". The place moves by what a member takes, so no range has it.
+// The members from at to the holder's end: "A member: 14, 9, 10, 13". The place moves by what a member
+// takes, and n is the count that the set ends with, so no range has them.
 fn read_members(s: &[u8], at: usize) -> Result<NumberSet, Refused>
     requires { at ≤ length s.now }
     ensures is { of_members result ≡ members_from at (slice at (length s.now) s.now) }

@@ -216,7 +216,8 @@ pub fn read_header(s: &[u8], at: usize) -> Result<Header, Refused>
     whole_header(s, at).map_err(|fault| reported_place(at, fault))
 }
 
-// The bytes of s up to a holder's end, or all of them where that would lie past them.
+// The bytes of s up to a holder's end, or all of them where that would lie past them. No crate here calls it: with it a caller
+// that has an end asks what `read_header` answers of a holder.
 pub fn holder(s: &[u8], end: usize) -> &[u8]
     ensures { result.now ≡ take end s.now }
 {

@@ -62,8 +62,8 @@ pub fn ask_octets(
     }
 }
 
-// The very octets of s that hold the field; none where it is absent or lies outside s. An empty slice stands for none since
-// callers have this signature; ask_octets tells the cases apart.
+// The very octets of s that hold the field; none where it is absent or lies outside s. An empty slice stands for none, since its
+// clauses `octets` and `place` are of a slice, which may not change; ask_octets tells the cases apart.
 pub fn octet_field(s: &[u8], r: Record, hardware: bool, number: usize) -> &[u8]
     ensures octets { result.now ≡ octet_field_of s.now r hardware number }
     ensures place { result.ref_ptr ≡ moved_on s.entry.ref_ptr (start_asked (asked_octets r hardware number (length s.now))) }

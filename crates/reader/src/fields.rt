@@ -27,7 +27,8 @@ pub(crate) struct FieldHead {
 }
 
 // The next element of a list, which is to be an explicit tag; where no octet is left, one is missing. contents has the same
-// with the plain look at the header, which is slower for fields and quicker for all else.
+// with the plain look at the header, which is slower for fields and quicker for all else. One for both would take the look as a
+// closure, with a contract of what it answers: no plainer than these lines.
 fn open_explicit(s: &[u8], at: usize) -> Result<Element, Refused>
     ensures is { of_element s.now (length s.now) result ≡ opened at (slice at (length s.now) s.now) }
     ensures inside { ElementInside at (length s.now) result }

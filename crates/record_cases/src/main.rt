@@ -21,7 +21,7 @@ use crate::write::{Texts, say_write};
 use case_input::{Input, read_full};
 use std::io;
 
-// Runs the next case of the input s.
+// Runs the next case of the input s. What is asked is a word, of which each gets an answer, so no enum has it.
 fn one_case(
     rt: &HostRuntime,
     s: &[u8],

@@ -4,8 +4,8 @@
 // or count, its length, how many words follow, and those: a set's slots, or the rest of 704.
 use crate::input::{flag, narrow, small};
 use case_input::Input;
+use reader::empty_record;
 use records::{FieldList, NumberSet, Part, Record, RootOfTrust, Security};
-use schema::ROWS;
 
 // A record and the buffer that its parts lie in.
 #[derive(Drop)]
@@ -53,30 +53,6 @@ fn root_of(others: Input, key: Part) -> RootOfTrust {
     }
 }
 
-fn empty_list() -> FieldList {
-    let nowhere = Part { start: 0, len: 0 };
-    let none = NumberSet {
-        members: [0; 16],
-        count: 0,
-    };
-    FieldList {
-        present: [false; ROWS],
-        values: [0; ROWS],
-        sizes: [0; ROWS],
-        purpose: none,
-        digest: none,
-        padding: none,
-        mgf: none,
-        root: RootOfTrust {
-            key: nowhere,
-            locked: false,
-            state: 0,
-            hashed: false,
-            hash: nowhere,
-        },
-    }
-}
-
 // Puts the next field into a list. A number that the table lacks has no place in a list.
 fn put_field(list: &mut FieldList, input: &mut Input) {
     let number = input.word() as usize;
@@ -109,7 +85,7 @@ fn put_field(list: &mut FieldList, input: &mut Input) {
 // The list of the next n fields.
 fn list_of(fields: Input, n: usize) -> FieldList {
     let mut input = fields;
-    let mut list = empty_list();
+    let mut list = empty_record().software;
     for _ in 0..n {
         put_field(&mut list, &mut input);
     }

@@ -1,5 +1,6 @@
 -- The token: what the code takes of it is what is defined; and where there is none, and 40 lets that pass, no list has 504.
 -- Assumes nothing.
+use mathlib.Core.Logic.{inl, inr}
 use mathlib.Core.Path.{◌≡◌, refl, ◌∙◌}
 use mathlib.Core.Bool.{Bool, false, true≢false}
 use mathlib.Core.Option.{Option, none, some}
@@ -9,6 +10,7 @@ use Rattle.std.specs.Prelude as code
 use Rattle.checks.specs.Tags.{allows, there}
 use Rattle.checks.specs.Checks.{token_refused, fresh_refused}
 use Rattle.checks.specs.Code.{of_number_tag, or_zero}
+use Rattle.ruling.specs.Statements.{AbsentTokenUnread}
 use Rattle.ruling.specs.Token.{of_token, token_there, token_kinds, token_time, token_challenge}
 use Rattle.ruling.specs.declared.request.Token.{Token}
 use Rattle.ruling.specs.declared.request.Request.{Request}
@@ -51,3 +53,9 @@ fresh_found q s h st ht r n Gives e m = go q.token refl e
     go : (o : code.Option Token) → q.token ≡ o → MatchOption o (r ≡ false) Gives → r ≡ fresh_refused q.uptime (token_time q) q.handle (token_challenge q) s h st ht
     go None i f = f ∙ not_asked q s h st ht i n
     go (Some t) i f = m t f ∙ rw i refl
+
+pub absent_token_unread : AbsentTokenUnread
+unfolding token_refused fresh_refused allows there
+absent_token_unread k t c u w none none st ht = (refl, inr refl)
+absent_token_unread k t c u w none (some y) st ht = (refl, inl refl)
+absent_token_unread k t c u w (some x) h st ht = (refl, inl refl)

@@ -1,11 +1,13 @@
 -- What is proved of the use ruling (document 01, "The use ruling"). Each statement stands under the sentence that it
--- renders; the theorem of the same name stands in proofs/Permitted.antt, Marked.antt, TagRows.antt or NothingElse.antt. Read
+-- renders; the theorem of the same name stands in proofs/Permitted.antt, Marked.antt, TagRows.antt, Tokens.antt or NothingElse.antt. Read
 -- Allowed.antt and Refuses.antt first, then `PermittedExactly`, `RefusedExactly`, `HardwareExactly` and `SoftwareExactly`.
 use Rattle.std.specs.Prelude.{◌≡◌, ◌⊎◌, ◌↔◌, Bool, true, false, List, [], ◌∷◌, ℕ, ◌/◌, ◌%◌, ◌^◌, get_or}
+use Rattle.std.proofs.Math.Option.{Option}
 use Rattle.std.specs.Int.Count.{ones}
 use Rattle.answer.specs.Answer.{got, refused}
 use Rattle.answer.specs.Refusal.{ill_shaped}
 use Rattle.schema.specs.Content.{FieldWith}
+use Rattle.checks.specs.Checks.{token_refused, fresh_refused}
 use Rattle.records.specs.Content.{octets_at, fields_of}
 use Rattle.records.specs.Equal.{Equal}
 use Rattle.records.specs.Shape.{well_shaped_record}
@@ -128,6 +130,14 @@ NothingElse =
     (r r' : Record) (q : Request) → well_shaped_record r ≡ well_shaped_record r'
     → r.attestation.level ≡ r'.attestation.level → r.keymint.level ≡ r'.keymint.level
     → software_rules r ≡ software_rules r' → hardware_rules r ≡ hardware_rules r' → ruling r q ≡ ruling r' q
+
+-- "504 present and no token": then 40, whatever types it would have; and where that lets it pass, 41 does, whatever its time and
+-- challenge would be
+abbrev pub AbsentTokenUnread : Type 0
+AbsentTokenUnread =
+    (kinds time challenge uptime handle : ℕ) (s h st ht : Option ℕ)
+    → (token_refused false kinds s h ≡ token_refused false 0 s h)
+    × ((token_refused false 0 s h ≡ true) ⊎ (fresh_refused uptime time handle challenge s h st ht ≡ false))
 
 -- "octet parts aren't looked at here": wherever they lie, a list's rules are the same
 abbrev pub OctetsUnseen : Type 0

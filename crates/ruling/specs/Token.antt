@@ -1,5 +1,5 @@
 -- A request's token, there or not. What is not there has no types, time or challenge: they stand as 0, and no answer turns
--- on them, since 504 wants a token before they are looked at.
+-- on them, since 504 wants a token before they are looked at (`AbsentTokenUnread`).
 use Rattle.std.specs.Prelude.{Bool, ℕ, Option, Some, None, is_some}
 use Rattle.ruling.specs.declared.request.Request.{Request}
 use Rattle.ruling.specs.declared.request.Token.{Token}

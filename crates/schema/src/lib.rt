@@ -11,7 +11,7 @@ ghost use Rattle.schema.specs.Rows.{of_row, place_of};
 // How many rows the table has.
 pub const ROWS: usize = 42;
 
-// How a field's content is read: document 01's kinds.
+// How a field's content is read: document 01's kinds. A `match` on them has what each is in one place; closures would part it.
 #[derive(Clone, Copy, Debug, PartialEq, Eq)]
 pub enum Kind {
     Set,
@@ -94,7 +94,8 @@ pub fn row_of(number: usize) -> Option<usize>
     }
 }
 
-// The row at a place of the table; past it, one that no version holds.
+// The row at a place of the table; past it, one that no version holds. A `match`, since a constant array is built anew at each
+// use.
 pub fn row_at(place: usize) -> Row
     ensures { of_row result ≡ row_at place }
 {

@@ -35,7 +35,8 @@ fn root_shaped(version: u32, t: &RootOfTrust) -> bool
     t.state <= 3 && t.hashed == (3 <= version)
 }
 
-// The set of a row, by its number, of a list's four: a list goes by value, and is fourteen times as large as a set.
+// The set of a row, by its number, of a list's four. No list in their place: in sizes and writer lists go by value, and a
+// reference to one would have it copied first, 2 KB of stack.
 pub fn set_of(
     number: usize,
     purpose: NumberSet,
