@@ -1,6 +1,6 @@
 -- `put_identifier` meets its contract: one law of `Writes` for each of the three forms. Assumes nothing.
 use lib.ListN.{length-set}
-use Rattle.der_write.proofs.Writes.{fits_high7, fits_low7, has_one, has_two, has_three, has_second, has-first, is_one, is_two, is_three}
+use Rattle.der_write.proofs.Writes.{has_one, has_two, has_three, has_second, has-first, is_one, is_two, is_three}
 use Rattle.der_write.proofs.put_identifier.Goals as goal
 
 pub bounds-out-0 : goal.bounds-out-0
@@ -18,14 +18,8 @@ bounds-out-1 c = simp length-set (search has_two)
 pub returns-then-number-lt128 : goal.returns-then-number-lt128
 returns-then-number-lt128 c = search is_two
 
-pub overflow_cast-out-2 : goal.overflow_cast-out-2
-overflow_cast-out-2 c = search fits_high7
-
 pub bounds-out-1-2 : goal.bounds-out-1-2
 bounds-out-1-2 c = simp length-set (search has_second)
-
-pub overflow_cast-out-3 : goal.overflow_cast-out-3
-overflow_cast-out-3 c = search fits_low7
 
 pub bounds-out-2 : goal.bounds-out-2
 bounds-out-2 c = simp length-set (search has_three)

@@ -1,11 +1,7 @@
 -- `significant_bits` meets its contract: 64 less the leading zeros of the word. Assumes nothing.
-use lib.Count.{leading_le}
 use Rattle.der_write.proofs.Sizes.{bits_64}
 use borrow.Author.Rules.{rules}
 use Rattle.der_write.proofs.significant_bits.Goals as goal
-
-pub overflow_sub-result : goal.overflow_sub-result
-overflow_sub-result c = leading_le 64 _
 
 pub returns : goal.returns
 returns c = (search bits_64, search rules)

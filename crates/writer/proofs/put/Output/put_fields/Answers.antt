@@ -1,6 +1,6 @@
 -- `put_fields` meets its contract. The invariant: the fields of the rows before this one are put. Assumes nothing.
 use mathlib.Core.Path.{refl}
-use Rattle.writer.proofs.Puts.{field-number, fields_start, fields_more, fields_skip, fields_end}
+use Rattle.writer.proofs.Puts.{field-number, fields_start, fields_more, fields_skip}
 use Rattle.writer.proofs.put.Output.put_fields.Goals.{then-l-place, else-l-place}
 use Rattle.writer.proofs.put.Output.put_fields.Goals as goal
 
@@ -19,6 +19,3 @@ loop-place-preserved c =
       | then-l-place w ↦ rw w.self-is (fields_more l s k w.row_at-row.result w.if-l-place.true w.row_at-row.ensures c.loop-place.invariant (w.put_field.ensures k refl refl))
       | else-l-place w ↦ rw w.self-is (fields_skip l s k w.if-l-place.false c.loop-place.invariant)
     ]
-
-pub returns : goal.returns
-returns c = search fields_end
