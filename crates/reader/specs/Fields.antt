@@ -8,7 +8,7 @@ use Rattle.codec.specs.Octets.{taken}
 use Rattle.schema.specs.Table.{row_at, row_count}
 use Rattle.schema.specs.Content.{field}
 use Rattle.schema.specs.Decode.{read_value, read_field, as_place}
-use Rattle.reader.specs.declared.fields.FieldHead.{FieldHead}
+use Rattle.reader.specs.declared.field.FieldHead.{FieldHead}
 
 -- a field that the version holds, in order: reading it is reading its content by the kind of its row
 pub record FieldAt (s : List ℕ) (at end v low row n b x : ℕ) : Type 0 where

@@ -17,7 +17,7 @@ use Rattle.records.specs.declared.RootOfTrust.{RootOfTrust}
 use Rattle.contents.specs.Content.{Stored, content_value}
 use Rattle.contents.specs.Kept.{ContentKept}
 use Rattle.reader.specs.Inside.{ListIn}
-use Rattle.reader.specs.declared.fields.FieldHead.{FieldHead}
+use Rattle.reader.specs.declared.field.FieldHead.{FieldHead}
 
 -- the list with row present, its number or part stored; a set and 704 in their own place
 abbrev pub with_field : FieldList → ℕ → Stored → FieldList

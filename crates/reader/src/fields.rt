@@ -9,6 +9,7 @@ ghost use Rattle.reader.specs.Fields.{FieldOpened};
 ghost use Rattle.reader.specs.Lists.{with_set, with_row, StoredAs, FieldsRead, ListRead};
 ghost use Rattle.records.specs.Empty.{empty_root, empty_list};
 
+use crate::field::FieldHead;
 use answer::{Refusal, Refused};
 use contents::content::{plain_content, root_content, set_content};
 use contents::element::{Element, Span, open_tagged};
@@ -16,15 +17,6 @@ use contents::set::empty_set;
 use der::header::{Header, quick_header};
 use records::{FieldList, NumberSet, Part, RootOfTrust};
 use schema::{Kind, ROWS, held, row_at, row_of};
-
-// A field: its row and number, and its content from body to stop.
-#[derive(Clone, Copy)]
-pub(crate) struct FieldHead {
-    pub(crate) row: usize,
-    pub(crate) number: usize,
-    pub(crate) body: usize,
-    pub(crate) stop: usize,
-}
 
 // The next element of a list, which is to be an explicit tag; where no octet is left, one is missing. contents has the same
 // with the plain look at the header, which is slower for fields and quicker for all else. One for both would take the look as a
@@ -133,7 +125,7 @@ fn mark_row(list: &mut FieldList, row: usize, value: u64, size: u64)
 }
 
 fn store_set_field(s: &[u8], field: FieldHead, list: &mut FieldList) -> Result<(), Refused>
-    requires { (field.row < row_count) × ((row_at field.row).kind ≡ set) }
+    requires { (row_at field.row).kind ≡ set }
     ensures { (v : ℕ) → StoredAs s.now v field list.old list.new result }
 {
     let g = set_content(s, field.body)?;
@@ -148,7 +140,7 @@ fn store_root_field(
     version: u32,
     list: &mut FieldList,
 ) -> Result<(), Refused>
-    requires { (field.row < row_count) × ((row_at field.row).kind ≡ root) }
+    requires { (row_at field.row).kind ≡ root }
     ensures { StoredAs s.now version field list.old list.new result }
 {
     list.root = root_content(s, field.body, 3 <= version)?;
@@ -162,7 +154,7 @@ fn store_plain_field(
     kind: Kind,
     list: &mut FieldList,
 ) -> Result<(), Refused>
-    requires { (field.row < row_count) × (of_kind kind ≡ (row_at field.row).kind) × (is_plain (of_kind kind) ≡ true) }
+    requires { (of_kind kind ≡ (row_at field.row).kind) × (is_plain (of_kind kind) ≡ true) }
     ensures { (v : ℕ) → StoredAs s.now v field list.old list.new result }
 {
     let plain = plain_content(s, field.body, kind)?;
@@ -177,7 +169,6 @@ fn store_field(
     version: u32,
     list: &mut FieldList,
 ) -> Result<(), Refused>
-    requires { field.row < row_count }
     ensures { StoredAs s.now version field list.old list.new result }
 {
     let kind = row_at(field.row).kind;

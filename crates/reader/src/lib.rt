@@ -2,6 +2,7 @@
 #![tactic(auto)]
 
 mod eight;
+mod field;
 mod fields;
 
 ghost use Rattle.std.specs.Prelude.{◌≡◌};

@@ -5,7 +5,7 @@ use Rattle.contents.proofs.Contents.{is_plain_lem}
 use Rattle.reader.proofs.fields.store_field.Goals as goal
 
 pub store_plain_field-requires : goal.store_plain_field-requires
-store_plain_field-requires c = (c.requires, ap (λ (q : Row). q.kind) c.row_at-kind.ensures, is_plain_lem _ c.in_default.not-Set c.in_default.not-Root)
+store_plain_field-requires c = (ap (λ (q : Row). q.kind) c.row_at-kind.ensures, is_plain_lem _ c.in_default.not-Set c.in_default.not-Root)
 
 pub returns-in-Set : goal.returns-in-Set
 returns-in-Set c = c.store_set_field.ensures _

@@ -9,7 +9,7 @@ use Rattle.reader.proofs.Filling.{set_with}
 use Rattle.reader.proofs.fields.store_set_field.Goals as goal
 
 pub returns-in_err-g : goal.returns-in_err-g
-returns-in_err-g c = rw (handed_on _ _ c.from_residual.ensures.1) (λ v p. rw c.requires.1 (as_set _ _ _ Kind.Set refl (Err _) c.in_err-g.ensures.is v p))
+returns-in_err-g c = rw (handed_on _ _ c.from_residual.ensures.1) (λ v p. rw c.requires (as_set _ _ _ Kind.Set refl (Err _) c.in_err-g.ensures.is v p))
 
 pub returns : goal.returns
-returns c = λ v. (set_stored c.in_ok-g.g, (λ p. rw c.requires.1 (as_set _ _ _ Kind.Set refl (Ok _) c.in_ok-g.ensures.is v p)), rw c.requires.1 (set_in_lem _ _ c.in_ok-g.ensures.slots), rw c.store_set.ensures at c.mark_row.ensures ∙ set_with _ _ c.requires.0 c.requires.1 c.in_ok-g.g)
+returns c = λ v. (set_stored c.in_ok-g.g, (λ p. rw c.requires (as_set _ _ _ Kind.Set refl (Ok _) c.in_ok-g.ensures.is v p)), rw c.requires (set_in_lem _ _ c.in_ok-g.ensures.slots), rw c.store_set.ensures at c.mark_row.ensures ∙ set_with _ _ c.args.field.in_table c.requires c.in_ok-g.g)
