@@ -46,7 +46,7 @@ fn generated(hardware: &FieldList) -> bool
     hardware.present[ROW_ORIGIN] & (hardware.values[ROW_ORIGIN] == GENERATED)
 }
 
-// 50 to 55, in order. The software list is not asked for.
+// 50 to 55, in order. The software list is not asked for, so that no record goes here, but what the order looks at.
 fn judge(level: u32, keymint_level: u32, hardware: &FieldList, met: bool) -> Result<(), Refused>
     ensures { of_enrolment result ≡ judged level keymint_level (fields_of hardware.now place_at) met }
 {

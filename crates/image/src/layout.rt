@@ -1,4 +1,5 @@
-// Where an image has its parts (include/sculldrip.h): in words, from its first one.
+// Where an image has its parts (include/sculldrip.h): in words, from its first one. The parts are slices whose clauses say how
+// many words they have: an array of a part would come by `try_into`, with an arm for a refusal that never is.
 pub(crate) const IMAGE_WORDS: usize = 410;
 
 pub(crate) const SOFTWARE: usize = 8;

@@ -37,7 +37,8 @@ fn looked_at(case: &Case) -> [bool; 16]
     marks::looked(q.purpose, algorithm, q.padding, auth)
 }
 
-// The ruling by the rules of both lists: the first refusal, or a permit with its marks.
+// The ruling by the rules of both lists: the first refusal, or a permit with its marks. The two levels go as the definitions have
+// them, here and in `permit`: a struct of two numbers would be made once and taken apart at once.
 fn ruled(level: u32, keymint_level: u32, case: &Case) -> Result<Permit, Refused>
     ensures { of_ruling result ≡ ruled level keymint_level (of_rules case.now.software) (of_rules case.now.hardware) case.now.request }
 {

@@ -17,7 +17,8 @@ use schema::{Kind, ROWS, Row};
 use shape::set_of;
 use sizes::{Sizes, members_size, plain_size, root_content_size, root_size, set_size};
 
-// A lent output, and the place where the next octet goes.
+// A lent output, and the place where the next octet goes. The buffer of the record's parts goes beside it where it is needed: in
+// it each clause would have to say that the buffer stays.
 #[derive(Drop)]
 struct Output<'a> {
     octets: &'a mut [u8],
