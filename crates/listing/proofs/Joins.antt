@@ -6,10 +6,12 @@ use Prim.Native.Nat.{ℕ, suc, ◌+◌, ◌<◌, ◌≤◌}
 use native.Mathlib.Omega.{arith}
 use lib.ListN.{length, set, length-append, length-set}
 use borrow.Author.Tests.{lt-ltb, le-ltb}
+use borrow.Rule.Slice.Mut.{set_vals}
 use Rattle.answer.specs.Answer.{pick}
 use Rattle.codec.specs.Octets.{splice}
 use Rattle.codec.proofs.Splice.{splice-nothing, splice_one, splice-splice}
-use Rattle.listing.specs.Put.{Output, output, put, puts, PutsText}
+use Rattle.listing.specs.declared.Text.{Text}
+use Rattle.listing.specs.Put.{Output, output, put, puts, Puts}
 
 puts-append : (o : Output) (xs ys : List ℕ) → puts o (xs ++ ys) ≡ puts (puts o xs) ys
 unfolding puts
@@ -17,33 +19,38 @@ puts-append o [] ys = refl
 puts-append o (x ∷ xs) ys = puts-append (put o x) xs ys
 
 -- one text after the other
-pub joined : {old mid new t u : List ℕ} {p q r m k : ℕ} → PutsText old p t m mid q → PutsText mid q u k new r → PutsText old p (t ++ u) (m + k) new r
-joined {old} {mid} {new} {t} {u} {p} {q} {r} {m} {k} e f = record {
-  is = f.is ∙ rw e.is (sym (puts-append (output old p) t u));
+pub joined : {old mid new : Text} {t u : List ℕ} {m k : ℕ} → Puts old t m mid → Puts mid u k new → Puts old (t ++ u) (m + k) new
+joined {old} {mid} {new} {t} {u} {m} {k} e f = record {
+  same = f.same ∙ e.same;
+  is = f.is ∙ rw e.is (sym (puts-append (output old.out.now old.at) t u));
   few = omega (arith, length-append t u, e.few, f.few);
 }
 
+-- the same text, with another bound
+pub bounded : {old new : Text} {t : List ℕ} {m k : ℕ} → length t ≤ k → Puts old t m new → Puts old t k new
+bounded l e = record { same = e.same; is = e.is; few = l }
+
 -- the same text, with a larger bound
-pub within : {old new t : List ℕ} {p q m : ℕ} (k : ℕ) → m ≤ k → PutsText old p t m new q → PutsText old p t k new q
-within k l e = record { is = e.is; few = omega (arith, e.few) }
+pub within : {old new : Text} {t : List ℕ} {m : ℕ} (k : ℕ) → m ≤ k → Puts old t m new → Puts old t k new
+within k l e = bounded (omega (arith, e.few)) e
 
 -- the same text, written in another way
-pub same : {old new t : List ℕ} {p q m : ℕ} (u : List ℕ) → t ≡ u → PutsText old p t m new q → PutsText old p u m new q
+pub same : {old new : Text} {t : List ℕ} {m : ℕ} (u : List ℕ) → t ≡ u → Puts old t m new → Puts old u m new
 same u e h = rw (← e) h
 
-pub nothing : (old : List ℕ) (p : ℕ) → PutsText old p [] 0 old p
+pub nothing : (old : Text) → Puts old [] 0 old
 unfolding puts
-nothing old p = record { is = refl; few = omega arith }
+nothing old = record { same = refl; is = refl; few = omega arith }
 
 -- one octet
 
-pub stored : (old : List ℕ) (p b : ℕ) → p < length old → PutsText old p (b ∷ []) 1 (set old p b) (p + 1)
+pub stored : (old : Text) (b : ℕ) → old.at < length old.out.now → Puts old (b ∷ []) 1 (record { out = set_vals (set old.out.now old.at b) old.out; at = old.at + 1 })
 unfolding put puts pick
-stored old p b h = record { is = rw (lt-ltb p (length old) h) refl; few = omega arith }
+stored old b h = record { same = refl; is = rw (lt-ltb old.at (length old.out.now) h) refl; few = omega arith }
 
-pub past : (old : List ℕ) (p b : ℕ) → length old ≤ p → PutsText old p (b ∷ []) 1 old p
+pub past : (old : Text) (b : ℕ) → length old.out.now ≤ old.at → Puts old (b ∷ []) 1 old
 unfolding put puts pick
-past old p b h = record { is = rw (le-ltb p (length old) h) refl; few = omega arith }
+past old b h = record { same = refl; is = rw (le-ltb old.at (length old.out.now) h) refl; few = omega arith }
 
 -- ---- where the text fits
 
@@ -57,7 +64,8 @@ spliced (b ∷ bs) old p h =
     (spliced bs (set old p b) (p + 1) (simp length-set (omega arith))
     ∙ rw (← splice_one old p b l, splice-splice old p (b ∷ []) bs (omega arith), e) refl)
 
-pub whole : {old new text : List ℕ} {p q most : ℕ} → p + most ≤ length old → PutsText old p text most new q → (new ≡ splice old p text) × (q ≡ p + length text)
-whole {old} {new} {text} {p} {q} {most} h e =
-    let s : output new q ≡ output (splice old p text) (p + length text) = e.is ∙ spliced text old p (omega (arith, e.few)) in
+pub whole : {old new : Text} {text : List ℕ} {most : ℕ} → Puts old text most new → old.at + most ≤ length old.out.now
+    → (new.out.now ≡ splice old.out.now old.at text) × (new.at ≡ old.at + length text)
+whole {old} {new} {text} {most} e h =
+    let s : output new.out.now new.at ≡ output (splice old.out.now old.at text) (old.at + length text) = e.is ∙ spliced text old.out.now old.at (omega (arith, e.few)) in
     (ap (λ (o : Output). o.octets) s, ap (λ (o : Output). o.place) s)

@@ -1,5 +1,4 @@
--- What each put function leaves, in plain variables: the text of the whole is that of its parts, put one after the
--- other. Assumes nothing.
+-- What each put function leaves: the text of the whole is that of its parts, put one after the other. Assumes nothing.
 use mathlib.Core.Path.{◌≡◌, refl, sym, ap, ◌∙◌}
 use mathlib.Core.Bool.{Bool, true, false}
 use mathlib.Core.Logic.{◌⊎◌, inl, inr}
@@ -28,44 +27,45 @@ use Rattle.records.specs.Content.{octets_at, part_of, members_of, root_of, set_a
 use Rattle.listing.specs.Text.{space, newline, dash, yes_word, version_word, keymint_word, level_word, challenge_word, unique_word, software_word, hardware_word, elements_word, refused_word, at_word}
 use Rattle.listing.specs.Text.{decimal, hex_digit, hex_text, octets_text, more_numbers, numbers_text, locked_text, hash_text, state_text, root_text, value_text}
 use Rattle.listing.specs.Text.{named, numbers_line, octets_line, field_line, field_lines, count_line, head_text, content_text, refusal_text}
-use Rattle.listing.specs.Put.{PutsText}
+use Rattle.listing.specs.declared.Text.{Text}
+use Rattle.listing.specs.Put.{Puts}
 use Rattle.listing.specs.Room.{parts, field_of, line_room, lines_room, needed, refusal_needed, listed}
-use Rattle.listing.proofs.Joins.{joined, within, same, nothing, whole}
+use Rattle.listing.proofs.Joins.{joined, bounded, within, same, nothing, whole}
 use Rattle.listing.proofs.Texts.{decimal_one, decimal_more, decimal-few, hex_text-append, hex_text_one, octets_text-none, octets_text_some, more_numbers-append, more_numbers_one, numbers_text-none, numbers_text_some}
 
 -- ---- a constant text, octet by octet
 
-pub text-start : (old text : List ℕ) (p : ℕ) → PutsText old p (take 0 text) 0 old p
-text-start old text p = nothing old p
+pub text-start : (old : Text) (text : List ℕ) → Puts old (take 0 text) 0 old
+text-start old text = nothing old
 
-pub text_more : (text : List ℕ) (i : ℕ) {old mid new : List ℕ} {p q r : ℕ} → i < length text → PutsText old p (take i text) i mid q → PutsText mid q (get_or text i 0 ∷ []) 1 new r
-    → PutsText old p (take (i + 1) text) (i + 1) new r
+pub text_more : (text : List ℕ) (i : ℕ) {old mid new : Text} → i < length text → Puts old (take i text) i mid → Puts mid (get_or text i 0 ∷ []) 1 new
+    → Puts old (take (i + 1) text) (i + 1) new
 text_more text i h e f = rw (add-one, take-suc text i 0 h) (rw (← add-one) (joined e f))
 
-pub text_end : (text : List ℕ) (i : ℕ) {old new : List ℕ} {p q : ℕ} → length text ≤ i → i ≤ length text → PutsText old p (take i text) i new q → PutsText old p text (length text) new q
+pub text_end : (text : List ℕ) (i : ℕ) {old new : Text} → length text ≤ i → i ≤ length text → Puts old (take i text) i new → Puts old text (length text) new
 text_end text i h l e = let z : i ≡ length text = omega arith in same text (take-length text) (rw z at e)
 
 -- ---- a number
 
-pub decimal-low : {old new : List ℕ} {p q n : ℕ} → n < 10 → PutsText old p ((48 + n) ∷ []) 1 new q → PutsText old p (decimal n) 20 new q
-decimal-low {old} {new} {p} {q} {n} h e = within 20 (omega arith) (same (decimal n) (sym (decimal_one n h)) e)
+pub decimal-low : {old new : Text} {n : ℕ} → n < 10 → Puts old ((48 + n) ∷ []) 1 new → Puts old (decimal n) 20 new
+decimal-low {old} {new} {n} h e = within 20 (omega arith) (same (decimal n) (sym (decimal_one n h)) e)
 
-pub decimal_high : {old mid new : List ℕ} {p q r n : ℕ} → 10 ≤ n → Fits w64 n → PutsText old p (decimal (n / 10)) 20 mid q → PutsText mid q ((48 + n % 10) ∷ []) 1 new r → PutsText old p (decimal n) 20 new r
-decimal_high {old} {mid} {new} {p} {q} {r} {n} h w e f = record { is = (same (decimal n) (sym (decimal_more n h)) (joined e f)).is; few = decimal-few n w.fits }
+pub decimal_high : {old mid new : Text} {n : ℕ} → 10 ≤ n → Fits w64 n → Puts old (decimal (n / 10)) 20 mid → Puts mid ((48 + n % 10) ∷ []) 1 new → Puts old (decimal n) 20 new
+decimal_high {old} {mid} {new} {n} h w e f = bounded (decimal-few n w.fits) (same (decimal n) (sym (decimal_more n h)) (joined e f))
 
 -- ---- octets
 
-pub hex_start : (old s : List ℕ) (p : ℕ) → PutsText old p (hex_text (take 0 s)) (2 * 0) old p
+pub hex_start : (old : Text) (s : List ℕ) → Puts old (hex_text (take 0 s)) (2 * 0) old
 unfolding hex_text
-hex_start old s p = nothing old p
+hex_start old s = nothing old
 
-pub hex_more : (s : List ℕ) (i : ℕ) {old mid mid₂ new : List ℕ} {p q q₂ r a b : ℕ} → i < length s → a ≡ hex_digit (get_or s i 0 / 16) → b ≡ hex_digit (get_or s i 0 % 16)
-    → PutsText old p (hex_text (take i s)) (2 * i) mid q → PutsText mid q (a ∷ []) 1 mid₂ q₂ → PutsText mid₂ q₂ (b ∷ []) 1 new r
-    → PutsText old p (hex_text (take (i + 1) s)) (2 * (i + 1)) new r
+pub hex_more : (s : List ℕ) (i : ℕ) {old mid mid₂ new : Text} {a b : ℕ} → i < length s → a ≡ hex_digit (get_or s i 0 / 16) → b ≡ hex_digit (get_or s i 0 % 16)
+    → Puts old (hex_text (take i s)) (2 * i) mid → Puts mid (a ∷ []) 1 mid₂ → Puts mid₂ (b ∷ []) 1 new
+    → Puts old (hex_text (take (i + 1) s)) (2 * (i + 1)) new
 hex_more s i h ea eb e f g =
     rw (add-one, take-suc s i 0 h, hex_text-append, hex_text_one, ← ea, ← eb) (within (2 * suc i) (omega arith) (joined e (joined f g)))
 
-pub hex_end : (s : List ℕ) (i : ℕ) {old new : List ℕ} {p q : ℕ} → length s ≤ i → i ≤ length s → PutsText old p (hex_text (take i s)) (2 * i) new q → PutsText old p (hex_text s) (2 * length s) new q
+pub hex_end : (s : List ℕ) (i : ℕ) {old new : Text} → length s ≤ i → i ≤ length s → Puts old (hex_text (take i s)) (2 * i) new → Puts old (hex_text s) (2 * length s) new
 hex_end s i h l e = let z : i ≡ length s = omega arith in same (hex_text s) (ap hex_text (take-length s)) (rw z at e)
 
 -- ---- a part of the bytes, cut at their end
@@ -93,28 +93,28 @@ part_few s start len =
     (λ h. rw (length-take-le len (drop start s) h) (omega (arith, n)))
     (λ h. rw (take_all len (drop start s) (omega (arith, h))) (omega (arith, n)))
 
-pub part_none : (s xs : List ℕ) (start len : ℕ) {old new : List ℕ} {p q : ℕ} → xs ≡ octets_at s start len → length xs ≡ 0 → PutsText old p dash 1 new q
-    → PutsText old p (octets_text (octets_at s start len)) (2 * length s + 1) new q
+pub part_none : (s xs : List ℕ) (start len : ℕ) {old new : Text} → xs ≡ octets_at s start len → length xs ≡ 0 → Puts old dash 1 new
+    → Puts old (octets_text (octets_at s start len)) (2 * length s + 1) new
 part_none s xs start len e h f = within (2 * length s + 1) (omega arith) (same (octets_text (octets_at s start len)) (octets_text-none xs (omega arith) ∙ ap octets_text e) f)
 
-pub part_some : (s xs : List ℕ) (start len : ℕ) {old new : List ℕ} {p q : ℕ} → xs ≡ octets_at s start len → (length xs ≡ 0 → ⊥) → PutsText old p (hex_text xs) (2 * length xs) new q
-    → PutsText old p (octets_text (octets_at s start len)) (2 * length s + 1) new q
+pub part_some : (s xs : List ℕ) (start len : ℕ) {old new : Text} → xs ≡ octets_at s start len → (length xs ≡ 0 → ⊥) → Puts old (hex_text xs) (2 * length xs) new
+    → Puts old (octets_text (octets_at s start len)) (2 * length s + 1) new
 part_some s xs start len e h f =
     let n : length xs ≤ length s = rw e (part_few s start len) in
     within (2 * length s + 1) (omega arith) (same (octets_text (octets_at s start len)) (octets_text_some xs (omega (arith, h)) ∙ ap octets_text e) f)
 
 -- ---- a set
 
-pub more_start : (old xs : List ℕ) (p : ℕ) → PutsText old p (more_numbers (take 0 xs)) (21 * 0) old p
+pub more_start : (old : Text) (xs : List ℕ) → Puts old (more_numbers (take 0 xs)) (21 * 0) old
 unfolding more_numbers
-more_start old xs p = nothing old p
+more_start old xs = nothing old
 
-pub more_more : (xs : List ℕ) (i : ℕ) {old mid mid₂ new : List ℕ} {p q q₂ r : ℕ} → i < length xs
-    → PutsText old p (more_numbers (take i xs)) (21 * i) mid q → PutsText mid q space 1 mid₂ q₂ → PutsText mid₂ q₂ (decimal (get_or xs i 0)) 20 new r
-    → PutsText old p (more_numbers (take (i + 1) xs)) (21 * (i + 1)) new r
+pub more_more : (xs : List ℕ) (i : ℕ) {old mid mid₂ new : Text} → i < length xs
+    → Puts old (more_numbers (take i xs)) (21 * i) mid → Puts mid space 1 mid₂ → Puts mid₂ (decimal (get_or xs i 0)) 20 new
+    → Puts old (more_numbers (take (i + 1) xs)) (21 * (i + 1)) new
 more_more xs i h e f g = rw (add-one, take-suc xs i 0 h, more_numbers-append, more_numbers_one) (within (21 * suc i) (omega arith) (joined e (joined f g)))
 
-pub more_end : (xs : List ℕ) (i : ℕ) {old new : List ℕ} {p q : ℕ} → length xs ≤ i → i ≤ length xs → PutsText old p (more_numbers (take i xs)) (21 * i) new q → PutsText old p (more_numbers xs) (21 * length xs) new q
+pub more_end : (xs : List ℕ) (i : ℕ) {old new : Text} → length xs ≤ i → i ≤ length xs → Puts old (more_numbers (take i xs)) (21 * i) new → Puts old (more_numbers xs) (21 * length xs) new
 more_end xs i h l e = let z : i ≡ length xs = omega arith in same (more_numbers xs) (ap more_numbers (take-length xs)) (rw z at e)
 
 -- as many members as the count and the slots allow
@@ -125,12 +125,12 @@ members_cut g {m} z e =
     (λ h. let q : m ≡ 16 = omega (arith, e) in rw q (take_all 16 g.members (omega arith) ∙ sym (take_all g.count g.members (omega arith))))
 
 module _ (g : NumberSet) where
-  pub set-none : {m : ℕ} {old new : List ℕ} {p q : ℕ} → length g.members ≡ 16 → m ≡ min g.count 16 → length (take m g.members) ≡ 0 → PutsText old p dash 1 new q
-      → PutsText old p (numbers_text (members_of g)) 335 new q
+  pub set-none : {m : ℕ} {old new : Text} → length g.members ≡ 16 → m ≡ min g.count 16 → length (take m g.members) ≡ 0 → Puts old dash 1 new
+      → Puts old (numbers_text (members_of g)) 335 new
   set-none {m} z e h f = within 335 (omega arith) (same (numbers_text (members_of g)) (numbers_text-none (take m g.members) h ∙ ap numbers_text (members_cut g z e)) f)
 
-  pub set_some : (x : ℕ) (xs : List ℕ) {m : ℕ} {old mid new : List ℕ} {p q r : ℕ} → length g.members ≡ 16 → m ≡ min g.count 16 → take m g.members ≡ x ∷ xs → PutsText old p (decimal x) 20 mid q
-      → PutsText mid q (more_numbers xs) (21 * length xs) new r → PutsText old p (numbers_text (members_of g)) 335 new r
+  pub set_some : (x : ℕ) (xs : List ℕ) {m : ℕ} {old mid new : Text} → length g.members ≡ 16 → m ≡ min g.count 16 → take m g.members ≡ x ∷ xs → Puts old (decimal x) 20 mid
+      → Puts mid (more_numbers xs) (21 * length xs) new → Puts old (numbers_text (members_of g)) 335 new
   set_some x xs {m} z e t f h =
       let l : length (take m g.members) ≡ suc (length xs) = ap length t in
       let n : suc (length xs) ≤ 16 = omega (arith, l, e, length-take-le m g.members (omega (arith, e, z))) in
@@ -146,70 +146,70 @@ pub locked_no : 48 ∷ [] ≡ locked_text false
 unfolding locked_text
 locked_no = refl
 
-pub state-put : (locked : Bool) (state : ℕ) {old o₁ o₂ o₃ new : List ℕ} {b p p₁ p₂ p₃ r : ℕ} → b ∷ [] ≡ locked_text locked → PutsText old p space 1 o₁ p₁ → PutsText o₁ p₁ (b ∷ []) 1 o₂ p₂
-    → PutsText o₂ p₂ space 1 o₃ p₃ → PutsText o₃ p₃ (decimal state) 20 new r → PutsText old p (state_text locked state) 23 new r
+pub state-put : (locked : Bool) (state : ℕ) {old o₁ o₂ o₃ new : Text} {b : ℕ} → b ∷ [] ≡ locked_text locked → Puts old space 1 o₁ → Puts o₁ (b ∷ []) 1 o₂
+    → Puts o₂ space 1 o₃ → Puts o₃ (decimal state) 20 new → Puts old (state_text locked state) 23 new
 unfolding state_text
 state-put locked state e e₁ e₂ e₃ e₄ = rw (← e) (joined e₁ (joined e₂ (joined e₃ e₄)))
 
-module _ (s : List ℕ) (root : RootOfTrust) {old o₁ o₂ : List ℕ} {p p₁ p₂ : ℕ}
-    (e₁ : PutsText old p (octets_text (part_of s root.key)) (2 * length s + 1) o₁ p₁) (e₂ : PutsText o₁ p₁ (state_text root.locked root.state) 23 o₂ p₂) where
-  pub root-hashed : {o₃ new : List ℕ} {p₃ r : ℕ} → root.hashed ≡ true → PutsText o₂ p₂ space 1 o₃ p₃ → PutsText o₃ p₃ (octets_text (part_of s root.hash)) (2 * length s + 1) new r
-      → PutsText old p (root_text (root_of (octets_at s) root)) (4 * length s + 26) new r
+module _ (s : List ℕ) (root : RootOfTrust) {old o₁ o₂ : Text}
+    (e₁ : Puts old (octets_text (part_of s root.key)) (2 * length s + 1) o₁) (e₂ : Puts o₁ (state_text root.locked root.state) 23 o₂) where
+  pub root-hashed : {o₃ new : Text} → root.hashed ≡ true → Puts o₂ space 1 o₃ → Puts o₃ (octets_text (part_of s root.hash)) (2 * length s + 1) new
+      → Puts old (root_text (root_of (octets_at s) root)) (4 * length s + 26) new
   unfolding root_text hash_text pick
   root-hashed h e₃ e₄ = rw h (within (4 * length s + 26) (omega arith) (joined e₁ (joined e₂ (joined e₃ e₄))))
 
-  pub root_unhashed : root.hashed ≡ false → PutsText old p (root_text (root_of (octets_at s) root)) (4 * length s + 26) o₂ p₂
+  pub root_unhashed : root.hashed ≡ false → Puts old (root_text (root_of (octets_at s) root)) (4 * length s + 26) o₂
   unfolding root_text hash_text pick
   root_unhashed h = rw (h, append-nil) (within (4 * length s + 26) (omega arith) (joined e₁ e₂))
 
 -- ---- lines
 
-pub named_put : (n : ℕ) {word old mid new : List ℕ} {m p q r : ℕ} → PutsText old p word m mid q → PutsText mid q (decimal n) 20 new r → PutsText old p (named word n) (m + 20) new r
+pub named_put : (n : ℕ) {old mid new : Text} {word : List ℕ} {m : ℕ} → Puts old word m mid → Puts mid (decimal n) 20 new → Puts old (named word n) (m + 20) new
 unfolding named
 named_put n e₁ e₂ = joined e₁ e₂
 
-pub numbers_line_lem : (first second : List ℕ) (a b : ℕ) {old o₁ o₂ new : List ℕ} {p p₁ p₂ r : ℕ} → PutsText old p (named first a) (length first + 20) o₁ p₁ → PutsText o₁ p₁ (named second b) (length second + 20) o₂ p₂
-    → PutsText o₂ p₂ newline 1 new r → PutsText old p (numbers_line first a second b) (length first + length second + 41) new r
+pub numbers_line_lem : (first second : List ℕ) (a b : ℕ) {old o₁ o₂ new : Text} → Puts old (named first a) (length first + 20) o₁ → Puts o₁ (named second b) (length second + 20) o₂
+    → Puts o₂ newline 1 new → Puts old (numbers_line first a second b) (length first + length second + 41) new
 unfolding numbers_line
 numbers_line_lem first second a b e₁ e₂ e₃ = within (length first + length second + 41) (omega arith) (joined e₁ (joined e₂ e₃))
 
-pub octets_line_lem : (word bs : List ℕ) (k : ℕ) {old o₁ o₂ new : List ℕ} {p p₁ p₂ r : ℕ} → PutsText old p word (length word) o₁ p₁ → PutsText o₁ p₁ (octets_text bs) (2 * k + 1) o₂ p₂
-    → PutsText o₂ p₂ newline 1 new r → PutsText old p (octets_line word bs) (length word + 2 * k + 2) new r
+pub octets_line_lem : (word bs : List ℕ) (k : ℕ) {old o₁ o₂ new : Text} → Puts old word (length word) o₁ → Puts o₁ (octets_text bs) (2 * k + 1) o₂
+    → Puts o₂ newline 1 new → Puts old (octets_line word bs) (length word + 2 * k + 2) new
 unfolding octets_line
 octets_line_lem word bs k e₁ e₂ e₃ = within (length word + 2 * k + 2) (omega arith) (joined e₁ (joined e₂ e₃))
 
 -- ---- a value, by its row's kind
 
-abbrev pub Valued : FieldList → List ℕ → ℕ → ℕ → Kind → List ℕ → ℕ → List ℕ → ℕ → Type 0
-Valued l s n k kind old p new q = PutsText old p (value_text (value_at l (octets_at s) n (of_kind kind) k)) (335 + parts (of_kind kind) * length s) new q
+abbrev pub Valued : FieldList → List ℕ → ℕ → ℕ → Kind → Text → Text → Type 0
+Valued l s n k kind old new = Puts old (value_text (value_at l (octets_at s) n (of_kind kind) k)) (335 + parts (of_kind kind) * length s) new
 
-module _ (l : FieldList) (s : List ℕ) (n k : ℕ) (kind : Kind) {old new : List ℕ} {p q : ℕ} where
-  pub value_set : kind ≡ Kind.Set → (g : NumberSet) → g ≡ set_at l n → PutsText old p (numbers_text (members_of g)) 335 new q → Valued l s n k kind old p new q
+module _ (l : FieldList) (s : List ℕ) (n k : ℕ) (kind : Kind) {old new : Text} where
+  pub value_set : kind ≡ Kind.Set → (g : NumberSet) → g ≡ set_at l n → Puts old (numbers_text (members_of g)) 335 new → Valued l s n k kind old new
   unfolding value_text value_at
   value_set e g d h = rw (e, ← d) (within (335 + 0 * length s) (omega arith) h)
 
-  pub value_number : (kind ≡ Kind.Number32) ⊎ (kind ≡ Kind.Number64) → PutsText old p (decimal (get_or l.values k 0)) 20 new q → Valued l s n k kind old p new q
+  pub value_number : (kind ≡ Kind.Number32) ⊎ (kind ≡ Kind.Number64) → Puts old (decimal (get_or l.values k 0)) 20 new → Valued l s n k kind old new
   unfolding value_text value_at
   value_number (inl e) h = rw e (within (335 + 0 * length s) (omega arith) h)
   value_number (inr e) h = rw e (within (335 + 0 * length s) (omega arith) h)
 
-  pub value_null : kind ≡ Kind.Null → PutsText old p yes_word 3 new q → Valued l s n k kind old p new q
+  pub value_null : kind ≡ Kind.Null → Puts old yes_word 3 new → Valued l s n k kind old new
   unfolding value_text value_at
   value_null e h = rw e (within (335 + 0 * length s) (omega arith) h)
 
-  pub value-octets : kind ≡ Kind.Octets → PutsText old p (octets_text (octets_at s (get_or l.values k 0) (get_or l.sizes k 0))) (2 * length s + 1) new q → Valued l s n k kind old p new q
+  pub value-octets : kind ≡ Kind.Octets → Puts old (octets_text (octets_at s (get_or l.values k 0) (get_or l.sizes k 0))) (2 * length s + 1) new → Valued l s n k kind old new
   unfolding value_text value_at
   value-octets e h = rw e (within (335 + 2 * length s) (omega arith) h)
 
-  pub value-root : kind ≡ Kind.Root → PutsText old p (root_text (root_of (octets_at s) l.root)) (4 * length s + 26) new q → Valued l s n k kind old p new q
+  pub value-root : kind ≡ Kind.Root → Puts old (root_text (root_of (octets_at s) l.root)) (4 * length s + 26) new → Valued l s n k kind old new
   unfolding value_text value_at
   value-root e h = rw e (within (335 + 4 * length s) (omega arith) h)
 
 -- ---- the fields of a list
 
-pub field_put : (word s : List ℕ) (l : FieldList) (k : ℕ) (row : Row) {old o₁ o₂ o₃ new : List ℕ} {p p₁ p₂ p₃ r : ℕ} → length word ≤ 9 → of_row row ≡ row_at k
-    → PutsText old p (named word row.number) (length word + 20) o₁ p₁ → PutsText o₁ p₁ space 1 o₂ p₂ → Valued l s row.number k row.kind o₂ p₂ o₃ p₃ → PutsText o₃ p₃ newline 1 new r
-    → PutsText old p (field_line word (field_of l s k)) (line_room (length s) k) new r
+pub field_put : (word s : List ℕ) (l : FieldList) (k : ℕ) (row : Row) {old o₁ o₂ o₃ new : Text} → length word ≤ 9 → of_row row ≡ row_at k
+    → Puts old (named word row.number) (length word + 20) o₁ → Puts o₁ space 1 o₂ → Valued l s row.number k row.kind o₂ o₃ → Puts o₃ newline 1 new
+    → Puts old (field_line word (field_of l s k)) (line_room (length s) k) new
 unfolding field_line
 field_put word s l k row h d e₁ e₂ e₃ e₄ =
     rw (← d) (within (384 + parts (of_kind row.kind) * length s) (omega arith) (joined e₁ (joined e₂ (joined e₃ e₄))))
@@ -220,60 +220,60 @@ field_lines-append word [] ys = refl
 field_lines-append word (x ∷ xs) ys = rw (field_lines-append word xs ys) (simp append_assoc)
 
 -- the lines of the rows before the k-th are put
-abbrev pub Listing : FieldList → List ℕ → List ℕ → ℕ → List ℕ → ℕ → List ℕ → ℕ → Type 0
-Listing l s word k old p new q = PutsText old p (field_lines word (up_to (field_at l (octets_at s)) k)) (lines_room (length s) k) new q
+abbrev pub Listing : FieldList → List ℕ → List ℕ → ℕ → Text → Text → Type 0
+Listing l s word k old new = Puts old (field_lines word (up_to (field_at l (octets_at s)) k)) (lines_room (length s) k) new
 
 module _ (l : FieldList) (s word : List ℕ) where
-  pub list_start : (old : List ℕ) (p : ℕ) → Listing l s word 0 old p old p
+  pub list_start : (old : Text) → Listing l s word 0 old old
   unfolding field_lines up_to
-  list_start old p = nothing old p
+  list_start old = nothing old
 
-  pub list_more : (k : ℕ) {old mid new : List ℕ} {p q r : ℕ} → get_or l.present k false ≡ true → Listing l s word k old p mid q
-      → PutsText mid q (field_line word (field_of l s k)) (line_room (length s) k) new r → Listing l s word (k + 1) old p new r
+  pub list_more : (k : ℕ) {old mid new : Text} → get_or l.present k false ≡ true → Listing l s word k old mid
+      → Puts mid (field_line word (field_of l s k)) (line_room (length s) k) new → Listing l s word (k + 1) old new
   unfolding field_lines up_to field_at pick
   list_more k h e f = rw (add-one, field_lines-append, h, append-nil) (joined e f)
 
-  pub list_skip : (k : ℕ) {old new : List ℕ} {p q : ℕ} → get_or l.present k false ≡ false → Listing l s word k old p new q → Listing l s word (k + 1) old p new q
+  pub list_skip : (k : ℕ) {old new : Text} → get_or l.present k false ≡ false → Listing l s word k old new → Listing l s word (k + 1) old new
   unfolding up_to field_at pick
   list_skip k h e = rw (add-one, h, append-nil) (within (lines_room (length s) (suc k)) (omega arith) e)
 
-  pub list_end : (k : ℕ) {old new : List ℕ} {p q : ℕ} → row_count ≤ k → k ≤ row_count → Listing l s word k old p new q → PutsText old p (field_lines word (fields_of l (octets_at s))) (16128 + 26 * length s) new q
+  pub list_end : (k : ℕ) {old new : Text} → row_count ≤ k → k ≤ row_count → Listing l s word k old new → Puts old (field_lines word (fields_of l (octets_at s))) (16128 + 26 * length s) new
   unfolding rows
   list_end k h w e = let z : k ≡ row_count = omega arith in within (16128 + 26 * length s) (omega arith) (rw z at e)
 
 -- ---- the whole
 
-pub head-put : (a b d e : ℕ) (s challenge unique : List ℕ) {old o₁ o₂ o₃ new : List ℕ} {p p₁ p₂ p₃ r : ℕ} → PutsText old p (numbers_line version_word a level_word b) 56 o₁ p₁
-    → PutsText o₁ p₁ (numbers_line keymint_word d level_word e) 56 o₂ p₂ → PutsText o₂ p₂ (octets_line challenge_word challenge) (10 + 2 * length s + 2) o₃ p₃
-    → PutsText o₃ p₃ (octets_line unique_word unique) (7 + 2 * length s + 2) new r → PutsText old p (head_text a b d e challenge unique) (133 + 4 * length s) new r
+pub head-put : (a b d e : ℕ) (s challenge unique : List ℕ) {old o₁ o₂ o₃ new : Text} → Puts old (numbers_line version_word a level_word b) 56 o₁
+    → Puts o₁ (numbers_line keymint_word d level_word e) 56 o₂ → Puts o₂ (octets_line challenge_word challenge) (10 + 2 * length s + 2) o₃
+    → Puts o₃ (octets_line unique_word unique) (7 + 2 * length s + 2) new → Puts old (head_text a b d e challenge unique) (133 + 4 * length s) new
 unfolding head_text
 head-put a b d e s challenge unique e₁ e₂ e₃ e₄ = within (133 + 4 * length s) (omega arith) (joined e₁ (joined e₂ (joined e₃ e₄)))
 
-pub count-put : (k : ℕ) {old mid new : List ℕ} {p q r : ℕ} → PutsText old p (named elements_word k) 29 mid q → PutsText mid q newline 1 new r → PutsText old p (count_line k) 30 new r
+pub count-put : (k : ℕ) {old mid new : Text} → Puts old (named elements_word k) 29 mid → Puts mid newline 1 new → Puts old (count_line k) 30 new
 unfolding count_line
 count-put k e f = joined e f
 
-pub record_put : (c : Content) (k : ℕ) (s : List ℕ) {old o₁ o₂ o₃ new : List ℕ} {p p₁ p₂ p₃ r : ℕ}
-    → PutsText old p (head_text c.version c.level c.keymint c.keymint_level c.challenge c.unique) (133 + 4 * length s) o₁ p₁
-    → PutsText o₁ p₁ (field_lines software_word c.software) (16128 + 26 * length s) o₂ p₂ → PutsText o₂ p₂ (field_lines hardware_word c.hardware) (16128 + 26 * length s) o₃ p₃
-    → PutsText o₃ p₃ (count_line k) 30 new r → PutsText old p (content_text c k) (needed (length s)) new r
+pub record_put : (c : Content) (k : ℕ) (s : List ℕ) {old o₁ o₂ o₃ new : Text}
+    → Puts old (head_text c.version c.level c.keymint c.keymint_level c.challenge c.unique) (133 + 4 * length s) o₁
+    → Puts o₁ (field_lines software_word c.software) (16128 + 26 * length s) o₂ → Puts o₂ (field_lines hardware_word c.hardware) (16128 + 26 * length s) o₃
+    → Puts o₃ (count_line k) 30 new → Puts old (content_text c k) (needed (length s)) new
 unfolding content_text
 record_put c k s e₁ e₂ e₃ e₄ = within (needed (length s)) (omega arith) (joined e₁ (joined e₂ (joined e₃ e₄)))
 
 -- an output that has the room holds the text at its front; one that has not is as it was
-module _ (old text : List ℕ) (room : ℕ) where
-  pub short : length old < room → (refused output_short 0 ≡ listed room old text) × (old ≡ left (listed room old text) old 0 text)
+module _ (text : List ℕ) (room : ℕ) where
+  pub short : (old : List ℕ) → length old < room → (refused output_short 0 ≡ listed room old text) × (old ≡ left (listed room old text) old 0 text)
   unfolding listed guard
-  short h = rw (lt-leb room (length old) h) (refl, refl)
+  short old h = rw (lt-leb room (length old) h) (refl, refl)
 
-  pub wrote : {new : List ℕ} {q : ℕ} → room ≤ length old → PutsText old 0 text room new q → (got q ≡ listed room old text) × (new ≡ left (listed room old text) old 0 text)
+  pub wrote : {old new : Text} → Puts old text room new → old.at ≡ 0 → room ≤ length old.out.now
+      → (got new.at ≡ listed room old.out.now text) × (new.out.now ≡ left (listed room old.out.now text) old.out.now 0 text)
   unfolding listed guard
-  wrote {new} {q} h e =
-      let l : 0 + room ≤ length old = omega arith in
-      let w = whole l e in
-      let z : q ≡ length text = omega (arith, w.1) in
-      rw (le-leb room (length old) h) (ap got z, w.0)
+  wrote {old} {new} e z h =
+      let w = whole e (omega (arith, z)) in
+      let n : new.at ≡ length text = omega (arith, z, w.1) in
+      rw (le-leb room (length old.out.now) h) (ap got n, rw z at w.0)
 
-pub refusal_put : (number place : ℕ) {old new : List ℕ} {r : ℕ} → PutsText old 0 (numbers_line refused_word number at_word place) 53 new r → PutsText old 0 (refusal_text number place) refusal_needed new r
+pub refusal_put : (number place : ℕ) {old new : Text} → Puts old (numbers_line refused_word number at_word place) 53 new → Puts old (refusal_text number place) refusal_needed new
 unfolding refusal_text
 refusal_put number place e = within 64 (omega arith) e

@@ -20,11 +20,8 @@ unfoldable pub puts : Output → List ℕ → Output
 puts o [] = o
 puts o (b ∷ bs) = puts (put o b) bs
 
--- the text, of at most `most` octets, was put at the place p of old, and left new and the place q
-pub record PutsText (old : List ℕ) (p : ℕ) (text : List ℕ) (most : ℕ) (new : List ℕ) (q : ℕ) : Type 0 where
-  pub is : output new q ≡ puts (output old p) text
+-- the text, of at most `most` octets, was put at the place of old, and left new; both are the same lent output
+pub record Puts (old : Text) (text : List ℕ) (most : ℕ) (new : Text) : Type 0 where
+  pub same : new.out.ghost_name ≡ old.out.ghost_name
+  pub is : output new.out.now new.at ≡ puts (output old.out.now old.at) text
   pub few : length text ≤ most
-
--- the same of the code's text, whose output and place these are
-abbrev pub Puts : Text → List ℕ → ℕ → Text → Type 0
-Puts old text most new = PutsText old.out.now old.at text most new.out.now new.at

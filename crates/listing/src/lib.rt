@@ -28,8 +28,7 @@ struct Text<'a> {
 impl Text<'_> {
     // One octet, unless the output is full.
     fn octet(&mut self, b: u8)
-        ensures kept { self.new.out.ghost_name ≡ self.old.out.ghost_name }
-        ensures puts { Puts self.old (b ∷ []) 1 self.new }
+        ensures { Puts self.old (b ∷ []) 1 self.new }
     {
         if self.at < self.out.len() {
             self.out[self.at] = b;
@@ -39,8 +38,7 @@ impl Text<'_> {
 
     // All of text.
     fn text(&mut self, text: &[u8])
-        ensures kept { self.new.out.ghost_name ≡ self.old.out.ghost_name }
-        ensures puts { Puts self.old text.now (length text.now) self.new }
+        ensures { Puts self.old text.now (length text.now) self.new }
     {
         for b in text {
             self.octet(*b);
@@ -49,8 +47,7 @@ impl Text<'_> {
 
     // A number in decimal.
     fn decimal(&mut self, n: u64)
-        ensures kept { self.new.out.ghost_name ≡ self.old.out.ghost_name }
-        ensures puts { Puts self.old (decimal n) 20 self.new }
+        ensures { Puts self.old (decimal n) 20 self.new }
     {
         if n < 10 {
             self.octet(b'0' + n as u8);
@@ -62,8 +59,7 @@ impl Text<'_> {
 
     // Octets as lower-case hex.
     fn hex(&mut self, s: &[u8])
-        ensures kept { self.new.out.ghost_name ≡ self.old.out.ghost_name }
-        ensures puts { Puts self.old (hex_text s.now) (2 * length s.now) self.new }
+        ensures { Puts self.old (hex_text s.now) (2 * length s.now) self.new }
     {
         for b in s {
             self.octet(hex_digit(*b / 16));
@@ -73,16 +69,14 @@ impl Text<'_> {
 
     // What stands for empty octets or an empty set.
     fn none(&mut self)
-        ensures kept { self.new.out.ghost_name ≡ self.old.out.ghost_name }
-        ensures puts { Puts self.old dash 1 self.new }
+        ensures { Puts self.old dash 1 self.new }
     {
         self.text(b"-");
     }
 
     // A part of s, "-" where it has no octets. What lies outside s is left out.
     fn part(&mut self, s: &[u8], part: Part)
-        ensures kept { self.new.out.ghost_name ≡ self.old.out.ghost_name }
-        ensures puts { Puts self.old (octets_text (part_of s.now part)) (2 * length s.now + 1) self.new }
+        ensures { Puts self.old (octets_text (part_of s.now part)) (2 * length s.now + 1) self.new }
     {
         let rest = &s[part.start.min(s.len())..];
         let octets = &rest[..part.len.min(rest.len())];
@@ -95,8 +89,7 @@ impl Text<'_> {
 
     // Numbers, each after a space.
     fn more(&mut self, numbers: &[u32])
-        ensures kept { self.new.out.ghost_name ≡ self.old.out.ghost_name }
-        ensures puts { Puts self.old (more_numbers numbers.now) (21 * length numbers.now) self.new }
+        ensures { Puts self.old (more_numbers numbers.now) (21 * length numbers.now) self.new }
     {
         for n in numbers {
             self.octet(b' ');
@@ -106,8 +99,7 @@ impl Text<'_> {
 
     // The members of a set, as many as its count and its slots allow, "-" where it has none.
     fn set(&mut self, g: &NumberSet)
-        ensures kept { self.new.out.ghost_name ≡ self.old.out.ghost_name }
-        ensures puts { Puts self.old (numbers_text (members_of g.now)) 335 self.new }
+        ensures { Puts self.old (numbers_text (members_of g.now)) 335 self.new }
     {
         let members = &g.members[..g.count.min(16)];
         match members.split_first() {
@@ -121,8 +113,7 @@ impl Text<'_> {
 
     // A root of trust's locked and state, each after a space.
     fn state(&mut self, locked: bool, state: u32)
-        ensures kept { self.new.out.ghost_name ≡ self.old.out.ghost_name }
-        ensures puts { Puts self.old (state_text locked state) 23 self.new }
+        ensures { Puts self.old (state_text locked state) 23 self.new }
     {
         self.octet(b' ');
         self.octet(locked_digit(locked));
@@ -132,8 +123,7 @@ impl Text<'_> {
 
     // Field 704: key, locked, state and, where there is one, hash.
     fn root(&mut self, s: &[u8], root: &RootOfTrust)
-        ensures kept { self.new.out.ghost_name ≡ self.old.out.ghost_name }
-        ensures puts { PutsRoot self.old s.now root.now self.new }
+        ensures { PutsRoot self.old s.now root.now self.new }
     {
         self.part(s, root.key);
         self.state(root.locked, root.state);
@@ -145,8 +135,7 @@ impl Text<'_> {
 
     // A number after its word.
     fn named(&mut self, word: &[u8], n: u64)
-        ensures kept { self.new.out.ghost_name ≡ self.old.out.ghost_name }
-        ensures puts { Puts self.old (named word.now n) (length word.now + 20) self.new }
+        ensures { Puts self.old (named word.now n) (length word.now + 20) self.new }
     {
         self.text(word);
         self.decimal(n);
@@ -154,8 +143,7 @@ impl Text<'_> {
 
     // A line of two numbers, each after its word.
     fn numbers(&mut self, first: &[u8], a: u64, second: &[u8], b: u64)
-        ensures kept { self.new.out.ghost_name ≡ self.old.out.ghost_name }
-        ensures puts { PutsNumbers self.old first.now a second.now b self.new }
+        ensures { PutsNumbers self.old first.now a second.now b self.new }
     {
         self.named(first, a);
         self.named(second, b);
@@ -164,8 +152,7 @@ impl Text<'_> {
 
     // A line of a part of s, after its word.
     fn octets(&mut self, word: &[u8], s: &[u8], part: Part)
-        ensures kept { self.new.out.ghost_name ≡ self.old.out.ghost_name }
-        ensures puts { PutsOctets self.old word.now s.now part self.new }
+        ensures { PutsOctets self.old word.now s.now part self.new }
     {
         self.text(word);
         self.part(s, part);
@@ -175,8 +162,7 @@ impl Text<'_> {
     // The value of a row of a list, by its kind.
     fn value(&mut self, s: &[u8], l: &FieldList, place: usize, row: Row)
         requires { place < row_count }
-        ensures kept { self.new.out.ghost_name ≡ self.old.out.ghost_name }
-        ensures puts { PutsValue self.old s.now l.now place row self.new }
+        ensures { PutsValue self.old s.now l.now place row self.new }
     {
         match row.kind {
             Kind::Set => self.set(&set_of(row.number, l.purpose, l.digest, l.padding, l.mgf)),
@@ -196,8 +182,7 @@ impl Text<'_> {
     // The line of a present row, after its list's word.
     fn field(&mut self, word: &[u8], s: &[u8], l: &FieldList, place: usize)
         requires { (length word.now ≤ 9) × (place < row_count) }
-        ensures kept { self.new.out.ghost_name ≡ self.old.out.ghost_name }
-        ensures puts { PutsField self.old word.now s.now l.now place self.new }
+        ensures { PutsField self.old word.now s.now l.now place self.new }
     {
         let row = schema::row_at(place);
         self.named(word, row.number as u64);
@@ -209,8 +194,7 @@ impl Text<'_> {
     // The lines of a list's present fields, each after the list's word.
     fn list(&mut self, word: &[u8], s: &[u8], l: &FieldList)
         requires { length word.now ≤ 9 }
-        ensures kept { self.new.out.ghost_name ≡ self.old.out.ghost_name }
-        ensures puts { PutsList self.old word.now s.now l.now self.new }
+        ensures { PutsList self.old word.now s.now l.now self.new }
     {
         for place in 0..ROWS {
             if l.present[place] {
@@ -221,8 +205,7 @@ impl Text<'_> {
 
     // The lines before the fields.
     fn head(&mut self, s: &[u8], r: &Record)
-        ensures kept { self.new.out.ghost_name ≡ self.old.out.ghost_name }
-        ensures puts { PutsHead self.old s.now r.now.attestation r.now.keymint r.now.challenge r.now.unique self.new }
+        ensures { PutsHead self.old s.now r.now.attestation r.now.keymint r.now.challenge r.now.unique self.new }
     {
         let attestation = r.attestation;
         let keymint = r.keymint;
@@ -244,8 +227,7 @@ impl Text<'_> {
 
     // The last line: how many elements.
     fn count(&mut self, count: usize)
-        ensures kept { self.new.out.ghost_name ≡ self.old.out.ghost_name }
-        ensures puts { Puts self.old (count_line count) 30 self.new }
+        ensures { Puts self.old (count_line count) 30 self.new }
     {
         self.named(b"elements ", count as u64);
         self.octet(b'\n');
@@ -253,8 +235,7 @@ impl Text<'_> {
 
     // All the lines of a record.
     fn whole_record(&mut self, s: &[u8], r: &Record, count: usize)
-        ensures kept { self.new.out.ghost_name ≡ self.old.out.ghost_name }
-        ensures puts { PutsRecord self.old s.now r.now count self.new }
+        ensures { PutsRecord self.old s.now r.now count self.new }
     {
         self.head(s, r);
         self.list(b"software ", s, &r.software);

@@ -2,8 +2,8 @@
 use Rattle.listing.proofs.Writes.{decimal-low, decimal_high}
 use Rattle.listing.proofs.Text.+decimal.Goals as goal
 
-pub returns-then-n-lt10-clause-puts : goal.returns-then-n-lt10-clause-puts
-returns-then-n-lt10-clause-puts t c = search decimal-low
+pub returns-then-n-lt10 : goal.returns-then-n-lt10
+returns-then-n-lt10 t c = search decimal-low
 
-pub returns-else-n-lt10-clause-puts : goal.returns-else-n-lt10-clause-puts
-returns-else-n-lt10-clause-puts t c = search decimal_high
+pub returns-else-n-lt10 : goal.returns-else-n-lt10
+returns-else-n-lt10 t c = search decimal_high

@@ -2,5 +2,5 @@
 use Rattle.listing.proofs.Writes.{count-put}
 use Rattle.listing.proofs.Text.count.Goals as goal
 
-pub returns-clause-puts : goal.returns-clause-puts
-returns-clause-puts c = search count-put
+pub returns : goal.returns
+returns c = search count-put

@@ -2,5 +2,5 @@
 use Rattle.listing.proofs.Writes.{field_put}
 use Rattle.listing.proofs.Text.field.Goals as goal
 
-pub returns-clause-puts : goal.returns-clause-puts
-returns-clause-puts c = search field_put
+pub returns : goal.returns
+returns c = search field_put

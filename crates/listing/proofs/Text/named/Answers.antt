@@ -2,5 +2,5 @@
 use Rattle.listing.proofs.Writes.{named_put}
 use Rattle.listing.proofs.Text.named.Goals as goal
 
-pub returns-clause-puts : goal.returns-clause-puts
-returns-clause-puts c = search named_put
+pub returns : goal.returns
+returns c = search named_put

@@ -2,5 +2,5 @@
 use Rattle.listing.proofs.Writes.{numbers_line_lem}
 use Rattle.listing.proofs.Text.numbers.Goals as goal
 
-pub returns-clause-puts : goal.returns-clause-puts
-returns-clause-puts c = search numbers_line_lem
+pub returns : goal.returns
+returns c = search numbers_line_lem

@@ -2,8 +2,8 @@
 use Rattle.listing.proofs.Joins.{stored, past}
 use Rattle.listing.proofs.Text.octet.Goals as goal
 
-pub returns-then-self-clause-puts : goal.returns-then-self-clause-puts
-returns-then-self-clause-puts c = search stored
+pub returns-then-self : goal.returns-then-self
+returns-then-self c = search stored
 
-pub returns-else-self-clause-puts : goal.returns-else-self-clause-puts
-returns-else-self-clause-puts c = search past
+pub returns-else-self : goal.returns-else-self
+returns-else-self c = search past

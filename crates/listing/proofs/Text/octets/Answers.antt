@@ -2,5 +2,5 @@
 use Rattle.listing.proofs.Writes.{octets_line_lem}
 use Rattle.listing.proofs.Text.octets.Goals as goal
 
-pub returns-clause-puts : goal.returns-clause-puts
-returns-clause-puts c = search octets_line_lem
+pub returns : goal.returns
+returns c = search octets_line_lem

@@ -3,14 +3,14 @@ use Rattle.std.proofs.Common.{rules, tests}
 use Rattle.listing.proofs.Writes.{part_cut, part_none, part_some}
 use Rattle.listing.proofs.Text.part.Goals as goal
 
-pub returns-then-is_empty-clause-puts : goal.returns-then-is_empty-clause-puts
-returns-then-is_empty-clause-puts c =
+pub returns-then-is_empty : goal.returns-then-is_empty
+returns-then-is_empty c =
     let s = c.args.s.now in
     let part = c.args.part in
-    part_none s _ part.start part.len (part_cut s part.start part.len c.min.ensures c.min-2.ensures) (search (rules, tests)) c.none.ensures.puts
+    part_none s _ part.start part.len (part_cut s part.start part.len c.min.ensures c.min-2.ensures) (search (rules, tests)) c.none.ensures
 
-pub returns-else-is_empty-clause-puts : goal.returns-else-is_empty-clause-puts
-returns-else-is_empty-clause-puts c =
+pub returns-else-is_empty : goal.returns-else-is_empty
+returns-else-is_empty c =
     let s = c.args.s.now in
     let part = c.args.part in
-    part_some s _ part.start part.len (part_cut s part.start part.len c.min.ensures c.min-2.ensures) (search (rules, tests)) c.hex.ensures.puts
+    part_some s _ part.start part.len (part_cut s part.start part.len c.min.ensures c.min-2.ensures) (search (rules, tests)) c.hex.ensures

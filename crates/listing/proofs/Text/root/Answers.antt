@@ -2,8 +2,8 @@
 use Rattle.listing.proofs.Writes.{root-hashed, root_unhashed}
 use Rattle.listing.proofs.Text.root.Goals as goal
 
-pub returns-then-root-clause-puts : goal.returns-then-root-clause-puts
-returns-then-root-clause-puts c = search root-hashed
+pub returns-then-root : goal.returns-then-root
+returns-then-root c = search root-hashed
 
-pub returns-else-root-clause-puts : goal.returns-else-root-clause-puts
-returns-else-root-clause-puts c = search root_unhashed
+pub returns-else-root : goal.returns-else-root
+returns-else-root c = search root_unhashed

@@ -3,8 +3,8 @@ use borrow.Author.Rules.{rules}
 use Rattle.listing.proofs.Writes.{set-none, set_some}
 use Rattle.listing.proofs.Text.set.Goals as goal
 
-pub returns-in-None-clause-puts : goal.returns-in-None-clause-puts
-returns-in-None-clause-puts c = set-none c.args.g.now (search rules) c.min.ensures c.in-None.ensures.cases c.none.ensures.puts
+pub returns-in-None : goal.returns-in-None
+returns-in-None c = set-none c.args.g.now (search rules) c.min.ensures c.in-None.ensures.cases c.none.ensures
 
-pub returns-in-Some-clause-puts : goal.returns-in-Some-clause-puts
-returns-in-Some-clause-puts c = set_some c.args.g.now c.in-Some.first.now c.in-Some.more.now (search rules) c.min.ensures c.in-Some.ensures.cases.0 c.decimal.ensures.puts c.more.ensures.puts
+pub returns-in-Some : goal.returns-in-Some
+returns-in-Some c = set_some c.args.g.now c.in-Some.first.now c.in-Some.more.now (search rules) c.min.ensures c.in-Some.ensures.cases.0 c.decimal.ensures c.more.ensures

@@ -2,5 +2,5 @@
 use Rattle.listing.proofs.Writes.{state-put}
 use Rattle.listing.proofs.Text.state.Goals as goal
 
-pub returns-clause-puts : goal.returns-clause-puts
-returns-clause-puts c = search state-put
+pub returns : goal.returns
+returns c = search state-put

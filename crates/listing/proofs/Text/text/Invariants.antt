@@ -1,8 +1,7 @@
 -- `Text::text` meets its contract. The invariant: what stands before this one is put.
-use mathlib.Core.Path.{◌≡◌}
 use lib.ListN.{take}
 use Rattle.listing.specs.Put.{Puts}
 use Rattle.listing.proofs.Text.text.Given as goal
 
 abbrev pub invariant-loop-b : goal.invariant-loop-b
-invariant-loop-b l = record { kept : l.self.out.ghost_name ≡ l.initial.self.out.ghost_name; puts : Puts l.initial.self (take l.b-index l.text) l.b-index l.self }
+invariant-loop-b l = Puts l.initial.self (take l.b-index l.text) l.b-index l.self

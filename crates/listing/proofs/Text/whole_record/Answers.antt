@@ -3,7 +3,7 @@ use Rattle.records.specs.Content.{content_of}
 use Rattle.listing.proofs.Writes.{record_put}
 use Rattle.listing.proofs.Text.whole_record.Goals as goal
 
-pub returns-clause-puts : goal.returns-clause-puts
-returns-clause-puts c =
+pub returns : goal.returns
+returns c =
     let a = c.args in
-    record_put (content_of a.r.now a.s.now) a.count a.s.now c.head.ensures.puts c.list.ensures.puts c.list-2.ensures.puts c.count.ensures.puts
+    record_put (content_of a.r.now a.s.now) a.count a.s.now c.head.ensures c.list.ensures c.list-2.ensures c.count.ensures
