@@ -93,7 +93,7 @@ impl Text<'_> {
     {
         for n in numbers {
             self.octet(b' ');
-            self.decimal(*n as u64);
+            self.decimal(u64::from(*n));
         }
     }
 
@@ -105,7 +105,7 @@ impl Text<'_> {
         match members.split_first() {
             None => self.none(),
             Some((first, more)) => {
-                self.decimal(*first as u64);
+                self.decimal(u64::from(*first));
                 self.more(more);
             }
         }
@@ -118,7 +118,7 @@ impl Text<'_> {
         self.octet(b' ');
         self.octet(locked_digit(locked));
         self.octet(b' ');
-        self.decimal(state as u64);
+        self.decimal(u64::from(state));
     }
 
     // Field 704: key, locked, state and, where there is one, hash.
@@ -211,15 +211,15 @@ impl Text<'_> {
         let keymint = r.keymint;
         self.numbers(
             b"version ",
-            attestation.version as u64,
+            u64::from(attestation.version),
             b" level ",
-            attestation.level as u64,
+            u64::from(attestation.level),
         );
         self.numbers(
             b"keymint ",
-            keymint.version as u64,
+            u64::from(keymint.version),
             b" level ",
-            keymint.level as u64,
+            u64::from(keymint.level),
         );
         self.octets(b"challenge ", s, r.challenge);
         self.octets(b"unique ", s, r.unique);
@@ -295,6 +295,6 @@ pub fn list_refusal(number: u8, place: usize, out: &mut [u8]) -> Result<usize, R
         return Err(Refused(Refusal::OutputShort, 0));
     }
     let mut text = Text { out, at: 0 };
-    text.numbers(b"refused ", number as u64, b" at ", place as u64);
+    text.numbers(b"refused ", u64::from(number), b" at ", place as u64);
     Ok(text.at)
 }

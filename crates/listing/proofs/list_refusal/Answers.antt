@@ -20,10 +20,10 @@ returns-then-out-lt-REFUSAL_ROOM-clause-output c =
 pub returns-clause-answer : goal.returns-clause-answer
 returns-clause-answer c =
     let a = c.args in
-    (wrote (refusal_text a.number a.place) refusal_needed (refusal_put a.number a.place c.numbers.ensures) refl c.if-out-lt-REFUSAL_ROOM.false).0
+    (wrote (refusal_text a.number a.place) refusal_needed (refusal_put a.number a.place (rw c.from.ensures at c.numbers.ensures)) refl c.if-out-lt-REFUSAL_ROOM.false).0
 
 pub returns-clause-output : goal.returns-clause-output
 returns-clause-output c =
     let a = c.args in
-    let e : c.numbers.new.self.out.now ≡ refusal_left a.number a.place a.out.now = (wrote (refusal_text a.number a.place) refusal_needed (refusal_put a.number a.place c.numbers.ensures) refl c.if-out-lt-REFUSAL_ROOM.false).1 in
+    let e : c.numbers.new.self.out.now ≡ refusal_left a.number a.place a.out.now = (wrote (refusal_text a.number a.place) refusal_needed (refusal_put a.number a.place (rw c.from.ensures at c.numbers.ensures)) refl c.if-out-lt-REFUSAL_ROOM.false).1 in
     search rules

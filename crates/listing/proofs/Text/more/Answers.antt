@@ -6,7 +6,7 @@ pub loop-n-init : goal.loop-n-init
 loop-n-init c = search more_start
 
 pub loop-n-preserved : goal.loop-n-preserved
-loop-n-preserved c = search more_more
+loop-n-preserved c = let e = rw c.from.ensures at c.decimal.ensures in search more_more
 
 pub returns : goal.returns
 returns c = search more_end

@@ -3,4 +3,4 @@ use Rattle.listing.proofs.Writes.{state-put}
 use Rattle.listing.proofs.Text.state.Goals as goal
 
 pub returns : goal.returns
-returns c = search state-put
+returns c = let e = rw c.from.ensures at c.decimal.ensures in search state-put
