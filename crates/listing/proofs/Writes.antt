@@ -8,7 +8,7 @@ use native.Mathlib.Omega.{arith}
 use native.Mathlib.Numerals.{add-one}
 use mir.Val.{Fits}
 use mir.Syntax.{w64}
-use lib.ListN.{length, take, drop, get_or, length-drop, drop_of_length-le}
+use lib.ListN.{length, take, drop, get_or, length-drop}
 use lib.Seq.{take-suc, take_all, take-length, length-take-le}
 use borrow.Author.Tests.{le-leb, lt-leb}
 use Rattle.answer.specs.Answer.{got, refused, guard, pick}
@@ -20,6 +20,7 @@ use Rattle.schema.specs.declared.Row.{Row}
 use Rattle.schema.specs.Table.{rows, row_at, row_count}
 use Rattle.schema.specs.Rows.{of_kind, of_row}
 use Rattle.schema.specs.Content.{Field, Content}
+use Rattle.records.specs.declared.Part.{Part}
 use Rattle.records.specs.declared.NumberSet.{NumberSet}
 use Rattle.records.specs.declared.FieldList.{FieldList}
 use Rattle.records.specs.declared.RootOfTrust.{RootOfTrust}
@@ -68,22 +69,7 @@ hex_more s i h ea eb e f g =
 pub hex_end : (s : List ℕ) (i : ℕ) {old new : Text} → length s ≤ i → i ≤ length s → Puts old (hex_text (take i s)) (2 * i) new → Puts old (hex_text s) (2 * length s) new
 hex_end s i h l e = let z : i ≡ length s = omega arith in same (hex_text s) (ap hex_text (take-length s)) (rw z at e)
 
--- ---- a part of the bytes, cut at their end
-
--- as many octets as there are from a start on
-pub part_cut : (s : List ℕ) (start len : ℕ) {k m : ℕ} → k ≡ min start (length s) → m ≡ min len (length (take (length s - k) (drop k s))) → take m (take (length s - k) (drop k s)) ≡ octets_at s start len
-part_cut s start len {k} {m} e f =
-    let n : length (drop k s) ≡ length s - k = length-drop k s in
-    let r : take (length s - k) (drop k s) ≡ drop k s = take_all (length s - k) (drop k s) (omega (arith, n)) in
-    let d : drop k s ≡ drop start s =
-    by_le start (length s)
-    (λ h. let z : k ≡ start = omega (arith, e) in rw z refl)
-    (λ h. let z : k ≡ length s = omega (arith, e) in rw z (drop_of_length-le s {i = length s} (omega arith) ∙ sym (drop_of_length-le s {i = start} (omega arith)))) in
-    let g : m ≡ min len (length (drop start s)) = rw (r, d) at f in
-    rw (r, d)
-    (by_le len (length (drop start s))
-    (λ h. let z : m ≡ len = omega (arith, g) in rw z refl)
-    (λ h. let z : m ≡ length (drop start s) = omega (arith, g) in rw z (take-length (drop start s) ∙ sym (take_all len (drop start s) (omega (arith, h))))))
+-- ---- a part of the bytes
 
 -- at most as many as all
 part_few : (s : List ℕ) (start len : ℕ) → length (octets_at s start len) ≤ length s
@@ -93,15 +79,14 @@ part_few s start len =
     (λ h. rw (length-take-le len (drop start s) h) (omega (arith, n)))
     (λ h. rw (take_all len (drop start s) (omega (arith, h))) (omega (arith, n)))
 
-pub part_none : (s xs : List ℕ) (start len : ℕ) {old new : Text} → xs ≡ octets_at s start len → length xs ≡ 0 → Puts old dash 1 new
-    → Puts old (octets_text (octets_at s start len)) (2 * length s + 1) new
-part_none s xs start len e h f = within (2 * length s + 1) (omega arith) (same (octets_text (octets_at s start len)) (octets_text-none xs (omega arith) ∙ ap octets_text e) f)
+module _ (s xs : List ℕ) (part : Part) {old new : Text} (e : xs ≡ part_of s part) where
+  pub part_none : length xs ≡ 0 → Puts old dash 1 new → Puts old (octets_text (part_of s part)) (2 * length s + 1) new
+  part_none h f = within (2 * length s + 1) (omega arith) (same (octets_text (part_of s part)) (octets_text-none xs (omega arith) ∙ ap octets_text e) f)
 
-pub part_some : (s xs : List ℕ) (start len : ℕ) {old new : Text} → xs ≡ octets_at s start len → (length xs ≡ 0 → ⊥) → Puts old (hex_text xs) (2 * length xs) new
-    → Puts old (octets_text (octets_at s start len)) (2 * length s + 1) new
-part_some s xs start len e h f =
-    let n : length xs ≤ length s = rw e (part_few s start len) in
-    within (2 * length s + 1) (omega arith) (same (octets_text (octets_at s start len)) (octets_text_some xs (omega (arith, h)) ∙ ap octets_text e) f)
+  pub part_some : (length xs ≡ 0 → ⊥) → Puts old (hex_text xs) (2 * length xs) new → Puts old (octets_text (part_of s part)) (2 * length s + 1) new
+  part_some h f =
+      let n : length xs ≤ length s = rw e (part_few s part.start part.len) in
+      within (2 * length s + 1) (omega arith) (same (octets_text (part_of s part)) (octets_text_some xs (omega (arith, h)) ∙ ap octets_text e) f)
 
 -- ---- a set
 

@@ -14,6 +14,7 @@ ghost use Rattle.listing.specs.Room.{of_listed};
 ghost use Rattle.listing.specs.Lines.{PutsNumbers, PutsOctets, PutsRoot, PutsValue, PutsField, PutsList, PutsHead, PutsRecord, record_listed, record_left, refusal_listed, refusal_left};
 
 use answer::{Refusal, Refused};
+use octet_fields::part_octets;
 use records::{FieldList, NumberSet, Part, Record, RootOfTrust};
 use schema::{Kind, ROWS, Row};
 use shape::set_of;
@@ -78,8 +79,7 @@ impl Text<'_> {
     fn part(&mut self, s: &[u8], part: Part)
         ensures { Puts self.old (octets_text (part_of s.now part)) (2 * length s.now + 1) self.new }
     {
-        let rest = &s[part.start.min(s.len())..];
-        let octets = &rest[..part.len.min(rest.len())];
+        let octets = part_octets(s, part);
         if octets.is_empty() {
             self.none();
         } else {
