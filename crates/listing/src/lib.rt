@@ -47,6 +47,7 @@ impl Text<'_> {
     }
 
     // A number in decimal.
+    // By hand: it goes into lent octets with no heap, one octet at a time, and decimal_spells says what these spell.
     fn decimal(&mut self, n: u64)
         ensures { Puts self.old (decimal n) 20 self.new }
     {
@@ -59,6 +60,7 @@ impl Text<'_> {
     }
 
     // Octets as lower-case hex.
+    // By hand, as decimal is: it goes into lent octets with no heap, one octet at a time.
     fn hex(&mut self, s: &[u8])
         ensures { Puts self.old (hex_text s.now) (2 * length s.now) self.new }
     {
