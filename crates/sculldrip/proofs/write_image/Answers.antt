@@ -6,11 +6,5 @@ use Rattle.sculldrip.proofs.write_image.Goals as goal
 pub returns-in_err-r-clause-answer : goal.returns-in_err-r-clause-answer
 returns-in_err-r-clause-answer c = rw (handed_on _ _ c.from_residual.ensures.1) (write_none c.args.image.now c.args.buffer.now c.args.output.now _ _ c.in_err-r.ensures).0
 
-pub returns-in_err-r-clause-output : goal.returns-in_err-r-clause-output
-returns-in_err-r-clause-output c = (write_none c.args.image.now c.args.buffer.now c.args.output.now _ _ c.in_err-r.ensures).1
-
 pub returns-clause-answer : goal.returns-clause-answer
 returns-clause-answer c = (write_is c.args.image.now c.args.buffer.now c.args.output.now _ c.in_ok-r.ensures c.write.ensures.answer c.write.ensures.output).0
-
-pub returns-clause-output : goal.returns-clause-output
-returns-clause-output c = (write_is c.args.image.now c.args.buffer.now c.args.output.now _ c.in_ok-r.ensures c.write.ensures.answer c.write.ensures.output).1
