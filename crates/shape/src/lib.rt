@@ -102,9 +102,9 @@ fn head_shaped(attestation: Security, keymint: Security) -> bool
     ensures { result ≡ head_shaped attestation.version attestation.level keymint.version keymint.level }
 {
     let top = level_top(attestation.version);
-    known_version(attestation.version as u64)
-        && attestation.level as u64 <= top
-        && keymint.level as u64 <= top
+    known_version(u64::from(attestation.version))
+        && u64::from(attestation.level) <= top
+        && u64::from(keymint.level) <= top
 }
 
 // Whether a record is well-shaped, whatever a caller set it to.
