@@ -39,7 +39,7 @@ fn both_allow<T: Copy, F: Fn(T) -> bool>(s: Option<T>, h: Option<T>, allows: F) 
 fn holds(g: NumberSet, n: u64) -> bool
     ensures { result ≡ member n (members_of g) }
 {
-    g.members.iter().take(g.count).any(|m| *m as u64 == n)
+    g.members.iter().take(g.count).any(|m| u64::from(*m) == n)
 }
 
 // "A set tag must be in at least one list", and n in each that has it.
