@@ -52,7 +52,7 @@ fn joined(mark: u16, lower: bool) -> u16
     requires { mark < 2 ^ 15 }
     ensures { result ≡ bit lower + 2 * mark }
 {
-    mark << 1 | lower as u16
+    mark << 1 | u16::from(lower)
 }
 
 // "A bit is set exactly when that list holds the tag and it was looked at". Two arrays and not one of pairs, since

@@ -3,4 +3,4 @@ use Rattle.ruling.proofs.Bits.{bit-joined}
 use Rattle.ruling.proofs.marks.joined.Goals as goal
 
 pub returns : goal.returns
-returns c = bit-joined c.args.mark c.requires c.args.lower
+returns c = rw (c.from.ensures) (bit-joined c.args.mark c.requires c.args.lower)
