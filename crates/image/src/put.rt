@@ -20,7 +20,7 @@ impl Word for bool {
     ghost as_word = { flag_word };
 
     fn word(self) -> u64 {
-        self as u64
+        u64::from(self)
     }
 }
 
@@ -28,7 +28,7 @@ impl Word for u32 {
     ghost as_word = { number_word };
 
     fn word(self) -> u64 {
-        self as u64
+        u64::from(self)
     }
 }
 
