@@ -142,10 +142,10 @@ fn rule_image(image: &[u64], request: &[u64], permit: &mut [u64]) -> Result<usiz
     }
     let r = record_of(image)?;
     let ruled = ruling::rule(r, request_of(request))?;
-    permit[0] = ruled.hardware as u64;
-    permit[1] = ruled.hardware_bits as u64;
-    permit[2] = ruled.software as u64;
-    permit[3] = ruled.software_bits as u64;
+    permit[0] = u64::from(ruled.hardware);
+    permit[1] = u64::from(ruled.hardware_bits);
+    permit[2] = u64::from(ruled.software);
+    permit[3] = u64::from(ruled.software_bits);
     Ok(0)
 }
 

@@ -9,9 +9,9 @@ fn word(number: u8, rest: usize) -> u64
     ensures { result ≡ word number rest }
 {
     if 0xff_ffff_ffff_ffff < rest {
-        return (number as u64) + 256 * 0xff_ffff_ffff_ffff;
+        return u64::from(number) + 256 * 0xff_ffff_ffff_ffff;
     }
-    (number as u64) + 256 * (rest as u64)
+    u64::from(number) + 256 * (rest as u64)
 }
 
 // The number for what a call answers: 0 and what stands beside it, or a refusal's number and place.

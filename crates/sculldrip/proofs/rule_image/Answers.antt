@@ -33,4 +33,4 @@ pub returns-clause-answer : goal.returns-clause-answer
 returns-clause-answer c = (answered (λ p. 0) permit_words c.args.permit.now (rule_is c.args.image.now c.args.request.now c.args.permit.now c.if-request-lt16.false c.if-permit-lt4.false _ c.in_ok-r.ensures c.request_of.ensures c.in_ok-ruled.ensures) (permit_stored c.args.permit.now _ _ _ _ c.if-permit-lt4.false)).0
 
 pub returns-clause-output : goal.returns-clause-output
-returns-clause-output c = (answered (λ p. 0) permit_words c.args.permit.now (rule_is c.args.image.now c.args.request.now c.args.permit.now c.if-request-lt16.false c.if-permit-lt4.false _ c.in_ok-r.ensures c.request_of.ensures c.in_ok-ruled.ensures) (permit_stored c.args.permit.now _ _ _ _ c.if-permit-lt4.false)).1
+returns-clause-output c = rw (c.from.ensures, c.from-2.ensures, c.from-3.ensures, c.from-4.ensures) (answered (λ p. 0) permit_words c.args.permit.now (rule_is c.args.image.now c.args.request.now c.args.permit.now c.if-request-lt16.false c.if-permit-lt4.false _ c.in_ok-r.ensures c.request_of.ensures c.in_ok-ruled.ensures) (permit_stored c.args.permit.now _ _ _ _ c.if-permit-lt4.false)).1

@@ -5,8 +5,8 @@ use Rattle.sculldrip.proofs.packed.word.Goals as goal
 
 pub returns-then-rest-gt72057594037927935 : goal.returns-then-rest-gt72057594037927935
 unfolding pick
-returns-then-rest-gt72057594037927935 c = simp (lt-ltb _ _ c.if-rest-gt72057594037927935.true)
+returns-then-rest-gt72057594037927935 c = simp (c.from.ensures, lt-ltb _ _ c.if-rest-gt72057594037927935.true)
 
 pub returns : goal.returns
 unfolding pick
-returns c = simp (le-ltb _ _ c.if-rest-gt72057594037927935.false)
+returns c = simp (c.from-2.ensures, le-ltb _ _ c.if-rest-gt72057594037927935.false)
