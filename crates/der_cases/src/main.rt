@@ -74,7 +74,7 @@ fn one_case(rt: &HostRuntime, input: &mut Input) -> io::Result<()>
     ensures { length input.new.rest.now < length input.old.rest.now }
 {
     let kind = input.octet();
-    let size = input.octet() as usize;
+    let size = usize::from(input.octet());
     rt.write_all(input.octets(size))?;
     print!(rt; ": ")?;
     match kind {
