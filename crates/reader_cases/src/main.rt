@@ -17,10 +17,10 @@ fn one_case(rt: &HostRuntime, input: &mut Input, out: &mut [u8]) -> io::Result<(
     ensures shorter { length input.new.rest.now < length input.old.rest.now }
     ensures kept { length out.new ≡ length out.old }
 {
-    let size = input.octet() as usize;
+    let size = usize::from(input.octet());
     rt.write_all(input.octets(size))?;
     println!(rt; ":")?;
-    let size = 256 * input.octet() as usize + input.octet() as usize;
+    let size = 256 * usize::from(input.octet()) + usize::from(input.octet());
     match list_bytes(input.octets(size), out) {
         Ok(n) => rt.write_all(front(out, n)),
         Err(_) => println!(rt; "short output"),
