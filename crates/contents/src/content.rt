@@ -75,7 +75,7 @@ pub fn set_content(s: &[u8], at: usize) -> Result<NumberSet, Refused>
     ensures slots { SetKept result }
 {
     if let Some(member) = one_member(s, at) {
-        return Ok(set_of_one(member as u32));
+        return Ok(set_of_one(u32::from(member)));
     }
     exactly(read_set(s, at)?, s.len())
 }

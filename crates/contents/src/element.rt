@@ -72,14 +72,14 @@ fn short_tagged(s: &[u8], at: usize, form: u8, number: usize) -> Option<Span>
     if 31 <= number || end <= at || end - at < 2 {
         return None;
     }
-    if s[at] as usize != form as usize * 32 + number {
+    if usize::from(s[at]) != usize::from(form) * 32 + number {
         return None;
     }
     let b = s[at + 1];
     if 128 <= b {
         return None;
     }
-    let size = b as usize;
+    let size = usize::from(b);
     if end - at - 2 < size {
         return None;
     }

@@ -19,7 +19,7 @@ fn spelled(octets: &[u8]) -> u64
 {
     let mut value: u64 = 0;
     for x in octets {
-        value = value * 256 + *x as u64;
+        value = value * 256 + u64::from(*x);
     }
     value
 }
@@ -48,10 +48,10 @@ fn value_of(octets: &[u8], top: u64) -> Option<u64>
         return None;
     }
     if octets.len() == 1 {
-        if top < a as u64 {
+        if top < u64::from(a) {
             return None;
         }
-        return Some(a as u64);
+        return Some(u64::from(a));
     }
     if a == 0 {
         if octets[1] < 128 {
@@ -80,7 +80,7 @@ fn short_number(s: &[u8], at: usize, tag: usize) -> Option<u8>
     if 31 <= tag || end <= at || end - at < 3 {
         return None;
     }
-    if s[at] as usize != tag || s[at + 1] != 1 {
+    if usize::from(s[at]) != tag || s[at + 1] != 1 {
         return None;
     }
     let n = s[at + 2];
@@ -96,7 +96,7 @@ pub(crate) fn read_number(s: &[u8], at: usize, tag: usize, top: u64) -> Result<T
     ensures inside { TakenInside at (length s.now) result }
 {
     if let Some(n) = short_number(s, at, tag) {
-        let val = n as u64;
+        let val = u64::from(n);
         if val <= top {
             return Ok(Taken { val, next: at + 3 });
         }

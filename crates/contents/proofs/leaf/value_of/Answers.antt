@@ -13,8 +13,8 @@ returns-in_err-a c = rw c.from_residual.ensures (content_none _ _ (search rules)
 pub returns-then-a-ge128 : goal.returns-then-a-ge128
 returns-then-a-ge128 c = search (rules, content_high)
 
-pub returns-then-top-a : goal.returns-then-top-a
-returns-then-top-a c = search (rules, content_one_over)
+pub returns-then-top-from : goal.returns-then-top-from
+returns-then-top-from c = search (rules, content_one_over)
 
 pub returns-then-octets-eq1 : goal.returns-then-octets-eq1
 returns-then-octets-eq1 c = search (rules, content_one)
