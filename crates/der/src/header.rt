@@ -53,7 +53,7 @@ fn read_high_number(s: &[u8], form: u8, at: usize) -> Result<Identifier, Refused
         }
         return Ok(Identifier {
             form,
-            number: b as usize,
+            number: usize::from(b),
             next: at + 1,
         });
     }
@@ -65,10 +65,10 @@ fn read_high_number(s: &[u8], form: u8, at: usize) -> Result<Identifier, Refused
     if 128 <= c {
         return Err(Refused(Refusal::BadIdentifier, p));
     }
-    let high = (b & 0x7f) as usize;
+    let high = usize::from(b & 0x7f);
     Ok(Identifier {
         form,
-        number: high << 7 | c as usize,
+        number: high << 7 | usize::from(c),
         next: p + 1,
     })
 }
@@ -85,7 +85,7 @@ fn read_identifier(s: &[u8], at: usize) -> Result<Identifier, Refused>
     }
     Ok(Identifier {
         form,
-        number: low as usize,
+        number: usize::from(low),
         next: at + 1,
     })
 }
@@ -99,7 +99,7 @@ fn read_length(s: &[u8], at: usize) -> Result<Length, Refused>
     let p = at + 1;
     if a < 128 {
         return Ok(Length {
-            size: a as usize,
+            size: usize::from(a),
             body: p,
         });
     }
@@ -109,7 +109,7 @@ fn read_length(s: &[u8], at: usize) -> Result<Length, Refused>
             return Err(Refused(Refusal::BadLength, at));
         }
         return Ok(Length {
-            size: b as usize,
+            size: usize::from(b),
             body: p + 1,
         });
     }
@@ -121,7 +121,7 @@ fn read_length(s: &[u8], at: usize) -> Result<Length, Refused>
         let q = p + 1;
         let c = octet(s, q)?;
         return Ok(Length {
-            size: (b as usize) << 8 | c as usize,
+            size: usize::from(b) << 8 | usize::from(c),
             body: q + 1,
         });
     }
@@ -138,7 +138,7 @@ pub(crate) fn short_at(s: &[u8], at: usize) -> Option<Identifier>
     if low != 31 {
         return Some(Identifier {
             form,
-            number: low as usize,
+            number: usize::from(low),
             next: at + 1,
         });
     }
@@ -153,10 +153,10 @@ pub(crate) fn short_at(s: &[u8], at: usize) -> Option<Identifier>
     if 128 <= c {
         return None;
     }
-    let upper = (b & 0x7f) as usize;
+    let upper = usize::from(b & 0x7f);
     Some(Identifier {
         form,
-        number: upper << 7 | c as usize,
+        number: upper << 7 | usize::from(c),
         next: at + 3,
     })
 }

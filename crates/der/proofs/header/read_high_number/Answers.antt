@@ -17,7 +17,7 @@ returns-then-b-lt31-clause-is c = rw c.in_ok-b.ensures.1 (search tests)
 
 pub returns-then-b-lt128-clause-is : goal.returns-then-b-lt128-clause-is
 unfolding read_high_number pick guard octet
-returns-then-b-lt128-clause-is c = rw c.in_ok-b.ensures.1 (search tests)
+returns-then-b-lt128-clause-is c = rw (c.in_ok-b.ensures.1, c.from.ensures) (search tests)
 
 pub returns-then-b-le128-clause-is : goal.returns-then-b-le128-clause-is
 unfolding read_high_number pick guard octet
@@ -33,4 +33,4 @@ returns-then-c-ge128-clause-is c = rw (c.in_ok-b.ensures.1, c.in_ok-c.ensures.1)
 
 pub returns-clause-is : goal.returns-clause-is
 unfolding read_high_number pick guard octet
-returns-clause-is c = rw (c.in_ok-b.ensures.1, c.in_ok-c.ensures.1) (search tests)
+returns-clause-is c = rw (c.in_ok-b.ensures.1, c.in_ok-c.ensures.1, c.from-high.ensures, c.from-2.ensures) (search tests)

@@ -17,4 +17,4 @@ returns-then-low-eq31-clause-is c = rw (c.read_high_number.ensures.is, c.in_ok-a
 
 pub returns-clause-is : goal.returns-clause-is
 unfolding read_identifier pick guard octet
-returns-clause-is c = rw c.in_ok-a.ensures.1 (search tests)
+returns-clause-is c = rw (c.in_ok-a.ensures.1, c.from.ensures) (search tests)

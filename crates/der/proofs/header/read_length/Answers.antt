@@ -13,7 +13,7 @@ returns-in_err-a-clause-is c = rw (handed_on _ _ c.from_residual.ensures.1, c.in
 
 pub returns-then-a-lt128-clause-is : goal.returns-then-a-lt128-clause-is
 unfolding read_length pick guard octet
-returns-then-a-lt128-clause-is c = rw c.in_ok-a.ensures.1 (search tests)
+returns-then-a-lt128-clause-is c = rw (c.in_ok-a.ensures.1, c.from.ensures) (search tests)
 
 pub returns-in_err-b-clause-is : goal.returns-in_err-b-clause-is
 unfolding read_length pick guard octet
@@ -25,7 +25,7 @@ returns-then-b-lt128-clause-is c = rw (c.in_ok-a.ensures.1, c.in_ok-b.ensures.1)
 
 pub returns-then-a-clause-is : goal.returns-then-a-clause-is
 unfolding read_length pick guard octet
-returns-then-a-clause-is c = rw (c.in_ok-a.ensures.1, c.in_ok-b.ensures.1) (search tests)
+returns-then-a-clause-is c = rw (c.in_ok-a.ensures.1, c.in_ok-b.ensures.1, c.from-then-a.ensures) (search tests)
 
 pub returns-in_err-b-2-clause-is : goal.returns-in_err-b-2-clause-is
 unfolding read_length pick guard octet
@@ -41,7 +41,7 @@ returns-in_err-c-clause-is c = rw (handed_on _ _ c.from_residual-in_err-c.ensure
 
 pub returns-then-a-2-clause-is : goal.returns-then-a-2-clause-is
 unfolding read_length pick guard octet
-returns-then-a-2-clause-is c = rw (c.in_ok-a.ensures.1, c.in_ok-b-2.ensures.1, c.in_ok-c.ensures.1) (search (tests, join8))
+returns-then-a-2-clause-is c = rw (c.in_ok-a.ensures.1, c.in_ok-b-2.ensures.1, c.in_ok-c.ensures.1, c.from-then-a-2.ensures, c.from-then-a-2-2.ensures) (search (tests, join8))
 
 pub returns-clause-is : goal.returns-clause-is
 unfolding read_length pick guard octet
