@@ -20,7 +20,7 @@ use records::{NumberSet, RootOfTrust};
 use schema::Kind;
 
 // A plain field's content: a number in value; or a part of the bytes, its start in value and its length in size; or neither, of
-// a NULL.
+// a NULL. The words are those of a record's `values` and `sizes`, which its row's kind reads.
 #[derive(Clone, Copy)]
 pub struct Plain {
     pub value: u64,

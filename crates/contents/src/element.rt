@@ -89,7 +89,8 @@ fn short_tagged(s: &[u8], at: usize, form: u8, number: usize) -> Option<Span>
     })
 }
 
-// The next element, which must have just this identifier; most headers have two octets.
+// The next element, which must have just this identifier; most headers have two octets. Form and number are any, and go by
+// themselves: each call writes them out.
 pub fn open_tagged(s: &[u8], at: usize, form: u8, number: usize) -> Result<Span, Refused>
     ensures is { of_tagged s.now (length s.now) result ≡ opened_as form number at (slice at (length s.now) s.now) }
     ensures inside { TaggedInside at (length s.now) result }

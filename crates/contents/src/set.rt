@@ -61,7 +61,8 @@ pub(crate) fn read_set(s: &[u8], at: usize) -> Result<Taken<NumberSet>, Refused>
     Ok(Taken { val, next: stop })
 }
 
-// The member of a set of one number below 128, where that is all that stands from at to the holder's end.
+// The member of a set of one number below 128, where that is all that stands from at to the holder's end. Its octets are tested
+// by their places, of which `OneMember` speaks.
 pub(crate) fn one_member(s: &[u8], at: usize) -> Option<u8>
     ensures { OneMember s.now at (length s.now) result }
 {

@@ -120,6 +120,7 @@ fn read_length(s: &[u8], at: usize) -> Result<Length, Refused>
         }
         let q = p + 1;
         let c = octet(s, q)?;
+        // By a shift: an array of the two octets would be made for it.
         return Ok(Length {
             size: usize::from(b) << 8 | usize::from(c),
             body: q + 1,

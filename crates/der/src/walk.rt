@@ -45,7 +45,7 @@ pub(crate) struct Past {
 }
 
 // The element at at, where depth levels are left and met elements were met before. These and the most that may be met are no
-// struct, since each changes at a step of its own.
+// struct, since depth and met change each at a step of its own, and most nowhere.
 #[cycle(walk_element_walk_run)]
 fn walk_element(s: &[u8], at: usize, depth: usize, met: usize, most: usize) -> Result<Past, Refused>
     ensures is { of_step s.now (length s.now) result ≡ counted met (walk_element most depth met at (slice at (length s.now) s.now)) }

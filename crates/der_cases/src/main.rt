@@ -85,6 +85,7 @@ fn one_case(rt: &HostRuntime, input: &mut Input) -> io::Result<()>
     }
 }
 
+// Runs cases until the input ends, which are not counted.
 fn all_cases(rt: &HostRuntime, s: &[u8]) -> io::Result<()> {
     let mut input = Input { rest: s };
     while !input.rest.is_empty() {

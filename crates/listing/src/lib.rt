@@ -2,7 +2,8 @@
 //
 // Each method of Text writes its text from the text's place on, nothing past the output's end. Its contract, Puts or one
 // that specs/Lines.antt names, also bounds the text's length, so that list_record knows without counting when all of it
-// fits; and it says that the output is the one that was lent.
+// fits; and it says that the output is the one that was lent. What is listed and its buffer go side by side, as the public
+// functions take them.
 #![tactic(auto)]
 
 ghost use Rattle.std.specs.Prelude.{◌≡◌, [], ◌∷◌, ◌+◌, ◌*◌, ◌<◌, ◌≤◌, length};

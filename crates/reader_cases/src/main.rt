@@ -20,6 +20,7 @@ fn one_case(rt: &HostRuntime, input: &mut Input, out: &mut [u8]) -> io::Result<(
     let size = usize::from(input.octet());
     rt.write_all(input.octets(size))?;
     println!(rt; ":")?;
+    // Two octets at once: Input has single ones and words.
     let size = 256 * usize::from(input.octet()) + usize::from(input.octet());
     match list_bytes(input.octets(size), out) {
         Ok(n) => rt.write_all(front(out, n)),
@@ -27,6 +28,7 @@ fn one_case(rt: &HostRuntime, input: &mut Input, out: &mut [u8]) -> io::Result<(
     }
 }
 
+// Runs cases until the input ends, which are not counted.
 fn all_cases(rt: &HostRuntime, s: &[u8], out: &mut [u8]) -> io::Result<()> {
     let mut input = Input { rest: s };
     while !input.rest.is_empty() {

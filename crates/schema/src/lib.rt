@@ -94,7 +94,7 @@ pub fn row_of(number: usize) -> Option<usize>
     }
 }
 
-// The row at a place of the table; past it, one that no version holds. A `match`, since a constant array is built anew at each
+// The row at a place of the table; past it, one that no version holds, since it cannot fail. A `match`, since a constant array is built anew at each
 // use.
 pub fn row_at(place: usize) -> Row
     ensures { of_row result ≡ row_at place }

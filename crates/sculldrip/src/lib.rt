@@ -78,6 +78,7 @@ fn ask_image(
     }
     let r = record_of(image)?;
     let asked = ask_octets(r, hardware != 0, number as usize, size)?;
+    // 0 for absent and 1 for there, as the C interface has them.
     match asked {
         None => Ok(0),
         Some(found) => {

@@ -1,5 +1,6 @@
 // How many octets each piece of an encoding has, counted up to 8,193. Nothing here asks that a record be well-shaped:
-// sets are cut at their 16 slots and parts at the end of the buffer, as a record's content is.
+// sets are cut at their 16 slots and parts at the end of the buffer, as a record's content is. A record and its buffer go side by
+// side, as the public functions take them.
 #![tactic(auto)]
 
 ghost use Rattle.std.specs.Prelude.{◌≡◌, ℕ, ◌+◌, get_or};
@@ -18,7 +19,7 @@ use records::{FieldList, NumberSet, Part, Record, RootOfTrust, Security};
 use schema::{Kind, ROWS, Row};
 use shape::set_of;
 
-// Stands for every size over the limit.
+// Stands for every size over the limit: sizes are answers of public functions that cannot fail.
 const PAST_LIMIT: usize = EXTENSION_BYTES + 1;
 
 // Of the fields of each list and of the eight elements, without their headers; and of the whole encoding.
