@@ -8,6 +8,7 @@ mod fields;
 ghost use Rattle.std.specs.Prelude.{◌≡◌};
 ghost use Rattle.reader.specs.Reading.{Answered};
 
+pub use crate::eight::empty_record;
 use crate::eight::{Opening, read_opening, record_of};
 use crate::fields::read_list;
 use answer::{Refusal, Refused};
