@@ -43,6 +43,7 @@ fn make(number: usize, kind: Kind, first: u32, last: u32) -> Row
 
 // The place in the table of a field number, where a row has it. A match, and no search: a constant array is built anew on the
 // stack at each use, which costs more than the rest of a field.
+#[tactic(auto, using(crate::proofs::Table::no_row), unfolding(crate::specs::Table::rows, crate::specs::Table::index_of, answer::specs::Answer::pick))]
 pub fn row_of(number: usize) -> Option<usize>
     ensures is { place_of result ≡ index_of rows number }
     ensures inside { IfSome result (λ k. k < row_count) }
@@ -94,8 +95,9 @@ pub fn row_of(number: usize) -> Option<usize>
     }
 }
 
-// The row at a place of the table; past it, one that no version holds, since it cannot fail. A `match`, since a constant array is built anew at each
-// use.
+// The row at a place of the table; past it, one that no version holds, since it cannot fail. A `match`, since a constant array is
+// built anew at each use.
+#[tactic(auto, unfolding(crate::specs::Table::rows, crate::specs::Table::row_at))]
 pub fn row_at(place: usize) -> Row
     ensures { of_row result ≡ row_at place }
 {
