@@ -29,7 +29,7 @@ use Rattle.listing.specs.Text.{space, newline, dash, yes_word, version_word, key
 use Rattle.listing.specs.Text.{decimal, hex_digit, hex_text, octets_text, more_numbers, numbers_text, locked_text, hash_text, state_text, root_text, value_text}
 use Rattle.listing.specs.Text.{named, numbers_line, octets_line, field_line, field_lines, count_line, head_text, content_text, refusal_text}
 use Rattle.listing.specs.declared.Text.{Text}
-use Rattle.listing.specs.Put.{Puts}
+use Rattle.listing.specs.Put.{output, puts, Puts}
 use Rattle.listing.specs.Room.{parts, field_of, line_room, lines_room, needed, refusal_needed, listed}
 use Rattle.listing.proofs.Joins.{joined, bounded, within, same, nothing, whole}
 use Rattle.listing.proofs.Texts.{decimal_one, decimal_more, decimal-few, hex_text-append, hex_text_one, octets_text-none, octets_text_some, more_numbers-append, more_numbers_one, numbers_text-none, numbers_text_some}
@@ -68,6 +68,16 @@ hex_more s i h ea eb e f g =
 
 pub hex_end : (s : List ℕ) (i : ℕ) {old new : Text} → length s ≤ i → i ≤ length s → Puts old (hex_text (take i s)) (2 * i) new → Puts old (hex_text s) (2 * length s) new
 hex_end s i h l e = let z : i ≡ length s = omega arith in same (hex_text s) (ap hex_text (take-length s)) (rw z at e)
+
+-- the digits of all of s, in a text of its own whose output ends as new
+pub hex_whole : (s : List ℕ) (i : ℕ) {old mid : Text} (new : List ℕ) → length s ≤ i → i ≤ length s → Puts old (hex_text (take i s)) (2 * i) mid
+    → (mid.out.ghost_name ≡ old.out.ghost_name → new ≡ mid.out.now) → output new mid.at ≡ puts (output old.out.now old.at) (hex_text s)
+hex_whole s i new l e h n = rw (n h.same) (hex_end s i l e h).is
+
+-- .. and the text that was lent, of which they are the rest
+pub hex_put : {old new : Text} (s : List ℕ) → new.out.ghost_name ≡ old.out.ghost_name → output new.out.now new.at ≡ puts (output old.out.now old.at) (hex_text s)
+    → length (hex_text s) ≤ 2 * length s → Puts old (hex_text s) (2 * length s) new
+hex_put s g e f = record { same = g; is = e; few = f }
 
 -- ---- a part of the bytes
 

@@ -10,7 +10,7 @@ ghost use Rattle.std.specs.Prelude.{◌≡◌, [], ◌∷◌, ◌+◌, ◌*◌, 
 ghost use Rattle.schema.specs.Table.{row_count};
 ghost use Rattle.records.specs.Content.{part_of, members_of};
 ghost use Rattle.listing.specs.Text.{dash, decimal, hex_digit, hex_text, octets_text, more_numbers, numbers_text, locked_text, state_text, named, count_line};
-ghost use Rattle.listing.specs.Put.{Puts};
+ghost use Rattle.listing.specs.Put.{output, puts, Puts};
 ghost use Rattle.listing.specs.Room.{of_listed};
 ghost use Rattle.listing.specs.Lines.{PutsNumbers, PutsOctets, PutsRoot, PutsValue, PutsField, PutsList, PutsHead, PutsRecord, record_listed, record_left, refusal_listed, refusal_left};
 
@@ -65,10 +65,7 @@ impl Text<'_> {
     fn hex(&mut self, s: &[u8])
         ensures { Puts self.old (hex_text s.now) (2 * length s.now) self.new }
     {
-        for b in s {
-            self.octet(hex_digit(*b / 16));
-            self.octet(hex_digit(*b % 16));
-        }
+        self.at = put_hex(self.out, self.at, s);
     }
 
     // What stands for empty octets or an empty set.
@@ -245,6 +242,21 @@ impl Text<'_> {
         self.list(b"hardware ", s, &r.hardware);
         self.count(count);
     }
+}
+
+// Octets as lower-case hex, from a place of the output on; the next place. The text is one of its own, since the place of one that is
+// lent is loaded and stored anew at each octet, which takes half as long again.
+fn put_hex(out: &mut [u8], at: usize, s: &[u8]) -> usize
+    ensures is { output out.new result ≡ puts (output out.old at) (hex_text s.now) }
+    ensures few { length (hex_text s.now) ≤ 2 * length s.now }
+{
+    let mut text = Text { out, at };
+    for b in s {
+        let b = *b;
+        text.octet(hex_digit(b / 16));
+        text.octet(hex_digit(b % 16));
+    }
+    text.at
 }
 
 // A digit of lower-case hex; 87 + 10 is 'a'.

@@ -1,9 +1,7 @@
--- `Text::hex` meets its contract. The invariant: the digits of the octets before this one are put. Assumes nothing.
-use Rattle.listing.proofs.Writes.{hex_start, hex_more}
+-- `Text::hex` meets its contract: `put_hex` goes on from the text's place. Assumes nothing.
+use mathlib.Core.Path.{refl}
+use Rattle.listing.proofs.Writes.{hex_put}
 use Rattle.listing.proofs.Text.hex.Goals as goal
 
-pub loop-b-init : goal.loop-b-init
-loop-b-init c = search hex_start
-
-pub loop-b-preserved : goal.loop-b-preserved
-loop-b-preserved c = search hex_more
+pub returns : goal.returns
+returns c = hex_put c.args.s.now refl c.put_hex-self.ensures.is c.put_hex-self.ensures.few
