@@ -5,15 +5,15 @@ use mathlib.Core.List.{List, [], ◌∷◌, ◌++◌, append-nil}
 use Rattle.std.specs.Prelude.{Result, Ok, Err}
 use Rattle.std.specs.Result.{IsErr, IsErrAnd}
 use Rattle.answer.specs.declared.Refused.{Refused}
-use Prim.Native.Nat.{ℕ, zero, suc, ◌+◌, ◌-◌, ◌*◌, ◌/◌, ◌%◌, ◌^◌, ◌<◌, ◌≤◌}
+use Prim.Native.Nat.{ℕ, zero, suc, ◌+◌, ◌-◌, ◌*◌, ◌/◌, ◌%◌, ◌^◌, ◌<◌, ◌≤◌, min}
 use native.Mathlib.Omega.{arith}
 use native.Mathlib.Nat.{div-one, zero-add, suc-add}
 use native.Mathlib.Numerals.{add-one}
 use mir.Val.{Fits}
 use mir.Syntax.{w8, w64}
 use lib.Bits.{bit_and, bit_or, or_shifted_r}
-use lib.ListN.{length, take, drop, set, length-set, length-append, length-drop}
-use lib.Seq.{drop-drop, take_all, take_at, length-take-le}
+use lib.ListN.{length, get_or, take, drop, set, length-set, length-append, length-drop}
+use lib.Seq.{drop-drop, take-suc, take_all, take_at, length-take-le}
 use Rattle.std.proofs.lemmas.List.{drop_all}
 use borrow.Rule.Slice.PartMut.{put_mid}
 use Rattle.std.specs.Int.{bytes_high_first}
@@ -27,7 +27,7 @@ use Rattle.codec.specs.Octets.{splice, left}
 use Rattle.codec.specs.Shortest.{low_octets, bits, integer_size, integer_octets, length_size, length_octets}
 use Rattle.codec.specs.Integer.{integer_element}
 use Rattle.codec.specs.Header.{Identifier, identifier, identifier_octets, header_octets, element_octets}
-use Rattle.codec.proofs.Splice.{splice_one, splice-splice, splice_stores}
+use Rattle.codec.proofs.Splice.{splice-nothing, splice_one, length-splice, splice-splice, splice_stores}
 use Rattle.codec.proofs.Shortest.{bits-le, lt-bits, length-low_octets, length-short, length-long}
 use Rattle.codec.proofs.Header.{one_octet, two_octets, three_octets}
 use Rattle.der_write.specs.Write.{of_put, header_put, room_after, room_for}
@@ -83,6 +83,28 @@ put_mid-splice old ys xs at n e h =
     let m : at + n - at ≡ n = omega arith in
     rw (m, drop-drop n at old, e, h) refl
 
+-- ---- octets copied one after the other
+
+module _ (old from : List ℕ) where
+  pub copied_none : old ≡ splice old 0 (take 0 from)
+  copied_none = sym (splice-nothing old 0)
+
+  pub copied_more : {to : List ℕ} (k : ℕ) → k < min (length old) (length from) → to ≡ splice old 0 (take k from)
+      → set to k (get_or from k 0) ≡ splice old 0 (take (k + 1) from)
+  copied_more {to} k h e =
+      let t : 0 + length (take k from) ≡ k = zero-add _ ∙ length-take-le k from (omega arith) in
+      let l : 0 + length (take k from) ≤ length old = omega arith in
+      let f : k < length (splice old 0 (take k from)) = omega (arith, length-splice old 0 (take k from) l) in
+      rw (e, ← splice_one (splice old 0 (take k from)) k (get_or from k 0) f, add-one, take-suc from k 0 (omega arith))
+      (rw t at (splice-splice old 0 (take k from) (get_or from k 0 ∷ []) l))
+
+  pub copied_all : {to : List ℕ} (k : ℕ) → k ≡ min (length old) (length from) → to ≡ splice old 0 (take k from) → to ≡ splice old 0 (take (length old) from)
+  copied_all {to} k h e =
+      by_le (length old) (length from)
+      (λ l. let d : k ≡ length old = omega arith in rw d at e)
+      (λ l. let d : k ≡ length from = omega arith in
+      e ∙ ap (splice old 0) (take_all k from (omega arith) ∙ sym (take_all (length old) from (omega arith))))
+
 pub octets_copied : (bs ys : List ℕ) (n x y : ℕ) → n ≤ 9 → y ≡ x → bs ≡ bytes_high_first 16 y → ys ≡ take (16 - (16 - n)) (drop (16 - n) bs) → ys ≡ low_octets n x
 octets_copied bs ys n x y h d e q =
     let l = length-low_octets n x in
@@ -98,6 +120,16 @@ put_mid_is old ys xs at k e h = rw (drop-drop k at old, e, h) refl
 pub whole : (old xs : List ℕ) → length old ≡ length xs → splice old 0 xs ≡ xs
 unfolding splice
 whole old xs e = let d : drop (0 + length xs) old ≡ [] = drop_all (0 + length xs) old (omega arith) in rw (d, append-nil) refl
+
+-- all of xs, over a slice that is just as long
+pub copied_whole : (old xs : List ℕ) {to : List ℕ} → length old ≡ length xs → to ≡ splice old 0 (take (length old) xs) → to ≡ xs
+copied_whole old xs h e = e ∙ (ap (splice old 0) (take_all (length old) xs (omega (arith, h))) ∙ whole old xs h)
+
+pub octets_put : (bs old ys : List ℕ) (x y : ℕ) → length old ≤ 9 → y ≡ x → bs ≡ bytes_high_first 16 y
+    → ys ≡ splice old 0 (take (length old) (take (16 - (16 - length old)) (drop (16 - length old) bs))) → ys ≡ low_octets (length old) x
+octets_put bs old ys x y h d e q =
+    let l = octets_copied bs (take (16 - (16 - length old)) (drop (16 - length old) bs)) (length old) x y h d e refl in
+    copied_whole old (low_octets (length old) x) (sym (length-low_octets (length old) x)) (rw l at q)
 
 -- ---- an identifier
 

@@ -3,8 +3,8 @@
 // place after them.
 #![tactic(auto)]
 
-ghost use Rattle.std.specs.Prelude.{◌≡◌, ℕ, ◌+◌, ◌<◌, ◌≤◌, leb, length};
-ghost use Rattle.codec.specs.Octets.{left};
+ghost use Rattle.std.specs.Prelude.{◌≡◌, ℕ, ◌+◌, ◌<◌, ◌≤◌, leb, length, take};
+ghost use Rattle.codec.specs.Octets.{splice, left};
 ghost use Rattle.codec.specs.Shortest.{low_octets, bits, integer_size, length_octets};
 ghost use Rattle.codec.specs.Integer.{integer_element};
 ghost use Rattle.codec.specs.Header.{identifier, identifier_octets, header_octets};
@@ -60,13 +60,23 @@ fn place_after(out: &[u8], at: usize, n: usize) -> Result<usize, Refused>
     }
 }
 
+// As many octets of from as to has, at the front of to; what it has beyond them stays. A loop, which becomes memcpy: `copy_from_slice`
+// is for slices that may overlap, and would have whoever links the library bring memmove, too.
+pub fn copy_octets(to: &mut [u8], from: &[u8])
+    ensures { to.new ≡ splice to.old 0 (take (length to.old) from.now) }
+{
+    for k in 0..to.len().min(from.len()) {
+        to[k] = from[k];
+    }
+}
+
 // x, the highest octet first, in as many octets as out has.
 fn put_octets(out: &mut [u8], x: u64)
     requires { length out.old ≤ 9 }
     ensures { out.new ≡ low_octets (length out.old) x }
 {
     let octets = u128::from(x).to_be_bytes();
-    out.copy_from_slice(&octets[16 - out.len()..]);
+    copy_octets(out, &octets[16 - out.len()..]);
 }
 
 // An identifier, in just its octets; a number from 31 on is taken apart seven bits to an octet.

@@ -73,11 +73,6 @@ put_part o k n xs sub e q =
     let l : length (drop k o) ≤ n = omega (arith, length-drop k o) in
     rw (q, take_all n (drop k o) l, drop_all n (drop k o) l, append-nil, zero-add, drop-drop) refl
 
--- n of them, that are xs now
-pub put_whole : (o : List ℕ) (k n : ℕ) (xs sub : List ℕ) → length xs ≡ n → sub ≡ xs → put_mid k n o sub ≡ splice o k xs
-unfolding splice
-put_whole o k n xs sub e q = rw (q, e, drop-drop) refl
-
 -- ---- writes one after the other
 
 -- the write after one that ends where this one starts

@@ -32,7 +32,16 @@ impl Word for u32 {
     }
 }
 
-// The word of each.
+impl Word for u64 {
+    ghost as_word = { λ n. n };
+
+    fn word(self) -> u64 {
+        self
+    }
+}
+
+// The word of each. Words of 64 bits go this way too, by a loop that becomes memcpy: `copy_from_slice` is for slices that may
+// overlap, and would have whoever links the library bring memmove.
 fn put_each<T: Word>(out: &mut [u64], xs: &[T])
     requires { length xs.now ≤ length out.old }
     ensures { out.new ≡ splice out.old 0 (map T.as_word xs.now) }
@@ -81,8 +90,8 @@ fn put_list(out: &mut [u64], l: &FieldList)
     ensures long { length (list_words l.now) ≡ 201 }
 {
     put_each(out, &l.present);
-    out[VALUES..SIZES].copy_from_slice(&l.values);
-    out[SIZES..PURPOSE].copy_from_slice(&l.sizes);
+    put_each(&mut out[VALUES..], &l.values);
+    put_each(&mut out[SIZES..], &l.sizes);
     put_sets(&mut out[PURPOSE..], l);
     put_root(&mut out[ROOT..], &l.root);
 }

@@ -7,7 +7,7 @@ use mathlib.Core.List.{List, [], ◌∷◌, ◌++◌, append-nil}
 use Prim.Native.Nat.{ℕ, zero, suc, ◌+◌, ◌-◌, ◌<◌, ◌≤◌}
 use native.Mathlib.Omega.{arith}
 use native.Mathlib.Numerals.{add-one}
-use lib.ListN.{length, take, drop, get_or, set, length-append}
+use lib.ListN.{length, take, drop, get_or, set, length-append, length-drop}
 use lib.Seq.{take_all, take-suc, set_at, length-take-le}
 use lib.Dec.{T, ltb, ltb→lt}
 use borrow.Author.Tests.{lt-ltb, le-leb}
@@ -28,7 +28,7 @@ use Rattle.codec.specs.Header.{identifier, identifier_octets, header_octets, ele
 use Rattle.codec.specs.Element.{chain_octets}
 use Rattle.codec.proofs.Splice.{splice-nothing, splice-splice, length-splice}
 use Rattle.der_write.specs.Write.{of_put, room_after, room_for, header_put}
-use Rattle.der_write.proofs.Writes.{put_mid-splice}
+use Rattle.der_write.proofs.Writes.{put_mid-splice, copied_whole}
 use Rattle.schema.specs.declared.Kind.{Kind}
 use Rattle.schema.specs.contracts.Kind as kinds
 use Rattle.schema.specs.declared.Row.{Row}
@@ -156,12 +156,17 @@ module _ (a b : Output) (x y : ℕ) (d : y ≡ x) (e : Adds a (integer_element y
 
 -- ---- bytes
 
-pub bytes_put : (o : Output) (t ys : List ℕ) (end : ℕ) → end ≡ o.at + length t → ys ≡ t
+pub bytes_put : (o : Output) (t ys : List ℕ) (end : ℕ) → end ≡ o.at + length t → end ≤ length o.octets.now
+    → ys ≡ splice (take (end - o.at) (drop o.at o.octets.now)) 0 (take (length (take (end - o.at) (drop o.at o.octets.now))) t)
     → Adds o t (record { octets = set_vals (put_mid o.at (end - o.at) o.octets.now ys) o.octets; at = end })
-bytes_put o t ys end d e = record {
-  same = refl;
-  put = record { is = λ few room. (rw d (put_mid-splice o.octets.now ys t o.at (length t) e refl), d) };
-}
+bytes_put o t ys end d h e =
+    let m : length (drop o.at o.octets.now) ≡ length o.octets.now - o.at = length-drop o.at o.octets.now in
+    let n : length (take (end - o.at) (drop o.at o.octets.now)) ≡ end - o.at = length-take-le (end - o.at) (drop o.at o.octets.now) (omega (arith, m)) in
+    let w : ys ≡ t = copied_whole (take (end - o.at) (drop o.at o.octets.now)) t (omega (arith, n, d)) e in
+    record {
+      same = refl;
+      put = record { is = λ few room. (rw d (put_mid-splice o.octets.now ys t o.at (length t) w refl), d) };
+    }
 
 pub bytes_not : (o : Output) (t : List ℕ) → length o.octets.now < o.at + length t → Adds o t o
 bytes_not o t h = record { same = refl; put = record { is = λ few room. absurd (omega arith) } }

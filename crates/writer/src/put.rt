@@ -61,7 +61,7 @@ impl Output<'_> {
         if let Some(end) = self.at.checked_add(t.len())
             && end <= self.octets.len()
         {
-            self.octets[self.at..end].copy_from_slice(t);
+            der_write::copy_octets(&mut self.octets[self.at..end], t);
             self.at = end;
         }
     }

@@ -3,4 +3,4 @@ use Rattle.writer.proofs.Puts.{bytes_put}
 use Rattle.writer.proofs.put.Output.put_bytes.Goals as goal
 
 pub returns-then-end-self : goal.returns-then-end-self
-returns-then-end-self c = bytes_put c.args.self.now c.args.t.now c.copy_from_slice.new.self c.in-Some.end c.in-Some.ensures.1 c.copy_from_slice.ensures.after
+returns-then-end-self c = bytes_put c.args.self.now c.args.t.now c.copy_octets.new.to c.in-Some.end c.in-Some.ensures.1 c.if-end-self.true c.copy_octets.ensures
