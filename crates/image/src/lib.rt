@@ -5,22 +5,24 @@ mod fit;
 mod from;
 mod layout;
 mod put;
+mod words;
 
 ghost use Rattle.std.specs.Prelude.{◌≡◌, ◌≤◌, length};
-ghost use Rattle.image.specs.Image.{record_in, of_imaged, image_put};
+ghost use Rattle.image.specs.Image.{record_of, record_in, of_imaged, image_put};
+ghost use Rattle.image.specs.Words.{of_words};
 ghost use Rattle.image.specs.Whole.{WholeRecord};
 
 use crate::fit::words_fit;
 use crate::from::record_from;
 use crate::layout::IMAGE_WORDS;
 use crate::put::put_words;
+pub use crate::words::Words;
 use answer::Refusal;
 use records::Record;
 
-// The record that an image is of. The image is refused where it has too few words, and where one that is looked at is that
-// of no record.
-pub fn record_of(image: &[u64]) -> Result<Record, Refusal>
-    ensures { of_imaged result ≡ record_in image.now }
+// The words of an image. It is refused where it has too few, and where one that is looked at is that of no record.
+pub fn words_of(image: &[u64]) -> Result<Words, Refusal>
+    ensures { of_words result ≡ record_in image.now }
 {
     if image.len() < IMAGE_WORDS {
         return Err(Refusal::ShortImage);
@@ -28,7 +30,23 @@ pub fn record_of(image: &[u64]) -> Result<Record, Refusal>
     if !words_fit(image) {
         return Err(Refusal::IllShaped);
     }
-    Ok(record_from(image))
+    Ok(Words { words: image })
+}
+
+impl Words<'_> {
+    // The record that they are of: by itself, since a place for a record or a refusal is cleared before it is filled.
+    pub fn record(self) -> Record
+        ensures { result ≡ record_of self.entry.words.now }
+    {
+        record_from(self.words)
+    }
+}
+
+// The record that an image is of, or why it is of none.
+pub fn record_of(image: &[u64]) -> Result<Record, Refusal>
+    ensures { of_imaged result ≡ record_in image.now }
+{
+    Ok(words_of(image)?.record())
 }
 
 // The words of a record into the first 410 of out; nothing where it has fewer. What stands after them stays.

@@ -13,7 +13,7 @@ ghost use Rattle.sculldrip.specs.Calls.{interface_version, elements, read_into, 
 use crate::packed::word_of;
 use answer::{Refusal, Refused};
 use extension_text::list_bytes;
-use image::{put_image, record_of};
+use image::{put_image, words_of};
 use octet_fields::ask_octets;
 use ruling::request::{Request, Token};
 
@@ -50,7 +50,8 @@ fn write_image(image: &[u64], buffer: &[u8], output: &mut [u8]) -> Result<usize,
     ensures answer { of_answer result ≡ write_image image.now buffer.now output.old }
     ensures output { output.new ≡ write_leaves image.now buffer.now output.old }
 {
-    let r = record_of(image)?;
+    let words = words_of(image)?;
+    let r = words.record();
     writer::write(r, buffer, output)
 }
 
@@ -76,7 +77,8 @@ fn ask_image(
     if part.len() < 2 {
         return Err(Refused(Refusal::ShortImage, 0));
     }
-    let r = record_of(image)?;
+    let words = words_of(image)?;
+    let r = words.record();
     let asked = ask_octets(r, hardware != 0, number as usize, size)?;
     // 0 for absent and 1 for there, as the C interface has them.
     match asked {
@@ -141,7 +143,8 @@ fn rule_image(image: &[u64], request: &[u64], permit: &mut [u64]) -> Result<usiz
     if permit.len() < 4 {
         return Err(Refused(Refusal::ShortImage, 0));
     }
-    let r = record_of(image)?;
+    let words = words_of(image)?;
+    let r = words.record();
     let ruled = ruling::rule(r, request_of(request))?;
     permit[0] = u64::from(ruled.hardware);
     permit[1] = u64::from(ruled.hardware_bits);
@@ -162,7 +165,8 @@ pub extern "C" fn sculldrip_rule(image: &[u64], request: &[u64], permit: &mut [u
 fn enrol_image(image: &[u64], buffer: &[u8], expected: &[u8]) -> Result<usize, Refused>
     ensures { of_answer result ≡ enrol_beside image.now buffer.now expected.now }
 {
-    let r = record_of(image)?;
+    let words = words_of(image)?;
+    let r = words.record();
     enrolment::enrol(r, buffer, expected)?;
     Ok(0)
 }

@@ -1,8 +1,8 @@
--- `record_of` meets its contract: the tests in their order, then the record of the words. Assumes nothing.
-use mathlib.Core.Path.{ap}
+-- `words_of` meets its contract: the tests in their order. Assumes nothing.
+use mathlib.Core.Path.{refl, ap}
 use mathlib.Core.Bool.{not}
 use Rattle.image.proofs.Imaging.{image-short, image_unfit, image-got}
-use Rattle.image.proofs.record_of.Goals as goal
+use Rattle.image.proofs.words_of.Goals as goal
 
 pub returns-then-image-lt-IMAGE_WORDS : goal.returns-then-image-lt-IMAGE_WORDS
 returns-then-image-lt-IMAGE_WORDS c = image-short c.args.image.now c.if-image-lt-IMAGE_WORDS.true
@@ -11,4 +11,4 @@ pub returns-then-not-words_fit : goal.returns-then-not-words_fit
 returns-then-not-words_fit c = image_unfit c.args.image.now c.if-image-lt-IMAGE_WORDS.false c.words_fit.ensures (ap not c.if-not-words_fit.true)
 
 pub returns : goal.returns
-returns c = image-got c.args.image.now c.if-image-lt-IMAGE_WORDS.false c.words_fit.ensures (ap not c.if-not-words_fit.false) c.record_from.ensures
+returns c = image-got c.args.image.now c.if-image-lt-IMAGE_WORDS.false c.words_fit.ensures (ap not c.if-not-words_fit.false) refl
