@@ -1,2 +1,3 @@
 pub mod ContentOctets
+pub mod Numbers
 pub mod OneRecord

@@ -10,7 +10,10 @@ use lib.ListN.{length, take, drop}
 use lib.Seq.{take-append_seam}
 use lib.Dec.{T, leb, leb→le, le→leb}
 use borrow.Author.Tests.{lt-leb}
+use Rattle.std.specs.Prelude.{Result, Ok, Err}
 use Rattle.answer.specs.Answer.{Answer, got, refused, guard, map_answer}
+use Rattle.answer.specs.Refusal.{number_of}
+use Rattle.answer.specs.declared.Refused.{Refused}
 use Rattle.answer.proofs.Answer.{got_inj, refused-got, guard_yes, guard_case}
 use Rattle.answer.proofs.Logic.{and_left, and_right, and_both}
 use Rattle.codec.specs.Octets.{Octets, splice, left}
@@ -28,16 +31,19 @@ use Rattle.schema.proofs.Encoded.{encode-octets}
 use Rattle.records.specs.Content.{octets_at, content_of}
 use Rattle.records.specs.Shape.{well_shaped_record}
 use Rattle.records.specs.Parts.{parts_inside}
+use Rattle.records.specs.Empty.{empty_record}
 use Rattle.records.specs.declared.Record.{Record}
 use Rattle.records.proofs.PlacesRead.{places_read}
 use Rattle.records.proofs.Equal.{equal_content, content_equal}
 use Rattle.records.proofs.ShapedContent.{shaped_content}
-use Rattle.reader.specs.Reading.{of_reading, Reads}
+use Rattle.reader.specs.Reading.{of_reading, Reads, Answered}
+use Rattle.reader.specs.declared.Reading.{Reading}
 use Rattle.reader.proofs.Answered.{same_answer, some_answer}
 use Rattle.writer.specs.Written.{encoding_of, writable, written, Writes}
 use Rattle.one_record.specs.Accepting.{ReadsAs}
-use Rattle.one_record.specs.Statements.{OneAnswer, ReadRefuses, SchemaRefuses, AcceptedExactly, EqualSameBytes, Encodable, EncodingAccepted, ReadsBackEqual, OnlyEncoding, EncodingSmall, WritesJustThat, RefusedUntouched, WriteNumbers, WriteRefuses, WriteOfRead, ReadOfWrite}
+use Rattle.one_record.specs.Statements.{OneAnswer, OneResult, ReadRefuses, SchemaRefuses, AcceptedExactly, EqualSameBytes, Encodable, EncodingAccepted, ReadsBackEqual, OnlyEncoding, EncodingSmall, WritesJustThat, RefusedUntouched, WriteNumbers, WriteRefuses, WriteOfRead, ReadOfWrite}
 use Rattle.one_record.proofs.ContentOctets.{content_octets}
+use Rattle.one_record.proofs.Numbers.{same_number, some_refusal}
 use Rattle.codec.specs.Limits.{extension_bytes}
 
 -- ---- one answer
@@ -52,6 +58,43 @@ read-refuses s k p r b g = refusals.reading_refuses Place as_place s b k p (sym 
 
 pub schema_refuses : SchemaRefuses
 schema_refuses s k p r t b e g = refusals.after_first_pass Place as_place s t b e k p (sym g.is)
+
+-- ---- one result: an answer and its record, as `read` gives them
+
+-- the result that stands for an answer and a record
+some_result : (s : List ℕ) → Octets s → (o : Answer ℕ) (r : Record) → Reads s o r → (a : Result Reading Refused) × Answered s a
+some_result s b (got n) r g = (Ok (record { elements = n; said = r }), g)
+some_result s b (refused k p) r g =
+    let n = read-refuses s k p r b g in
+    let f = some_refusal k n.0 n.1 in
+    (Err (record { 0 = f.0; 1 = p }), rw (f.1, ← g.empty) g)
+
+-- one answer and one record stand for one result
+same_reading : (a b : Reading) → a.elements ≡ b.elements → a.said ≡ b.said → a ≡ b
+same_reading a b e f = λ i. record { elements = e i; said = f i }
+
+same_refused : (a b : Refused) → ◌≡◌ {A = Answer ℕ} (refused (number_of a.0) a.1) (refused (number_of b.0) b.1) → a ≡ b
+same_refused a b e =
+    let n : number_of a.0 ≡ number_of b.0 = cc in
+    let p : a.1 ≡ b.1 = cc in
+    let r = same_number a.0 b.0 n in
+    λ i. record { 0 = r i; 1 = p i }
+
+same_result : (s : List ℕ) (a a' : Result Reading Refused) → Answered s a → Answered s a' → a' ≡ a
+same_result s (Ok a) (Ok a') g h =
+    let e = same_answer s (got a.elements) (got a'.elements) a.said a'.said g h in
+    ap Ok (same_reading a' a (got_inj e.0) e.1)
+same_result s (Ok a) (Err b) g h = absurd (refused-got (same_answer s (got a.elements) (refused (number_of b.0) b.1) a.said empty_record g h).0)
+same_result s (Err b) (Ok a) g h = absurd (refused-got (same_answer s (got a.elements) (refused (number_of b.0) b.1) a.said empty_record h g).0)
+same_result s (Err a) (Err b) g h =
+    let e = same_answer s (refused (number_of a.0) a.1) (refused (number_of b.0) b.1) empty_record empty_record g h in
+    ap Err (same_refused b a e.0)
+
+pub one_result : OneResult
+one_result s b =
+    let a = one_answer s b in
+    let w = some_result s b a.0 a.1 a.2 in
+    (w.0, w.1, λ a' h. same_result s w.0 a' w.1 h)
 
 -- ---- what is accepted
 

@@ -1,8 +1,9 @@
 -- One record, one encoding: what is proved of the reader and the writer together (document 01, demands 2 and 3). Each
 -- statement stands under the sentence that it renders; proofs/OneRecord.antt has the theorem of the same name. Read first
 -- AcceptedExactly, EqualSameBytes and WritesJustThat.
-use Rattle.std.specs.Prelude.{◌⊎◌, ◌↔◌, ◌≡◌, List, ◌++◌, ℕ, ◌≤◌, ◌<◌, length, take, drop, T}
+use Rattle.std.specs.Prelude.{◌⊎◌, ◌↔◌, ◌≡◌, List, ◌++◌, ℕ, ◌≤◌, ◌<◌, length, take, drop, T, Result}
 use Rattle.answer.specs.Answer.{Answer, got, refused}
+use Rattle.answer.specs.declared.Refused.{Refused}
 use Rattle.codec.specs.Limits.{extension_bytes, extension_depth, extension_elements}
 use Rattle.codec.specs.Octets.{Octets}
 use Rattle.codec.specs.Tree.{Node, nodes, first_pass}
@@ -15,15 +16,22 @@ use Rattle.records.specs.Shape.{well_shaped_record}
 use Rattle.records.specs.Parts.{parts_inside}
 use Rattle.records.specs.Equal.{Equal}
 use Rattle.records.specs.declared.Record.{Record}
-use Rattle.reader.specs.Reading.{Reads}
+use Rattle.reader.specs.Reading.{Reads, Answered}
+use Rattle.reader.specs.declared.Reading.{Reading}
 use Rattle.writer.specs.Written.{encoding_of, Writes}
 use Rattle.one_record.specs.Accepting.{ReadsAs}
 
--- "Any bytes .. get an answer": there is an outcome and a record that the contract of `read` allows, and no other
+-- "Any bytes .. get an answer": there is an answer and a record that `Reads` allows, and no other
 abbrev pub OneAnswer : Type 0
 OneAnswer =
     (s : List ℕ) → Octets s
     → (o : Answer ℕ) × (r : Record) × Reads s o r × ((o' : Answer ℕ) (r' : Record) → Reads s o' r' → (o' ≡ o) × (r' ≡ r))
+
+-- .. and so of the result itself: the contract of `read` allows just one for all bytes
+abbrev pub OneResult : Type 0
+OneResult =
+    (s : List ℕ) → Octets s
+    → (a : Result Reading Refused) × Answered s a × ((a' : Result Reading Refused) → Answered s a' → a' ≡ a)
 
 -- "each refusal has the number .. fixed in document 01": a refused read has a number from 1 to 14, and from 8 to 14 where the
 -- first pass accepts
