@@ -1,12 +1,15 @@
 -- How the texts of numbers, octets and sets grow by one more digit, octet or member. Assumes nothing.
 use mathlib.Core.Path.{◌≡◌, refl}
+use mathlib.Core.Bool.{Bool}
 use mathlib.Core.List.{List, [], ◌∷◌, ◌++◌, append_assoc, append-nil}
 use Prim.Native.Nat.{ℕ, zero, suc, ◌+◌, ◌*◌, ◌/◌, ◌%◌, ◌^◌, ◌<◌, ◌≤◌}
 use native.Mathlib.Omega.{arith}
 use native.Mathlib.Nat.{pow-suc}
-use lib.ListN.{length, length-append}
-use borrow.Author.Tests.{lt-ltb, le-ltb}
+use lib.ListN.{length, get_or, length-append}
+use lib.Dec.{eqb, eqb→eq}
 use Rattle.answer.specs.Answer.{pick}
+use Rattle.records.specs.Rows.{all_below}
+use Rattle.records.proofs.Rowwise.{all_at}
 use Rattle.listing.specs.Text.{space, dash, digits, decimal, hex_digit, hex_pair, hex_text, octets_text, more_numbers, numbers_text}
 
 -- ---- a number
@@ -61,13 +64,16 @@ decimal-few (suc n) h = digits-few 20 (suc n) (suc n) (omega arith)
 
 -- ---- octets
 
-pub hex_digit-low : (n : ℕ) → n < 10 → 48 + n ≡ hex_digit n
-unfolding hex_digit pick
-hex_digit-low n h = rw (lt-ltb n 10 h) refl
+-- the sixteen digits, in their order
+abbrev hex_digits : List ℕ
+hex_digits = 48 ∷ 49 ∷ 50 ∷ 51 ∷ 52 ∷ 53 ∷ 54 ∷ 55 ∷ 56 ∷ 57 ∷ 97 ∷ 98 ∷ 99 ∷ 100 ∷ 101 ∷ 102 ∷ []
 
-pub hex_digit_high : (n : ℕ) → 10 ≤ n → 87 + n ≡ hex_digit n
-unfolding hex_digit pick
-hex_digit_high n h = rw (le-ltb n 10 h) refl
+abbrev hex_digit_at : ℕ → Bool
+hex_digit_at n = eqb (get_or hex_digits n 0) (hex_digit n)
+
+pub hex_digit_there : (n : ℕ) → n < 16 → get_or hex_digits n 0 ≡ hex_digit n
+unfolding all_below hex_digit pick
+hex_digit_there n h = eqb→eq (get_or hex_digits n 0) (hex_digit n) (rw (all_at hex_digit_at 16 n h refl) tt)
 
 pub hex_text-append : (xs ys : List ℕ) → hex_text (xs ++ ys) ≡ hex_text xs ++ hex_text ys
 unfolding hex_text

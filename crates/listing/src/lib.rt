@@ -259,12 +259,12 @@ fn put_hex(out: &mut [u8], at: usize, s: &[u8]) -> usize
     text.at
 }
 
-// A digit of lower-case hex; 87 + 10 is 'a'.
+// A digit of lower-case hex.
 fn hex_digit(n: u8) -> u8
     requires { n < 16 }
     ensures { result ≡ hex_digit n }
 {
-    if n < 10 { b'0' + n } else { 87 + n }
+    b"0123456789abcdef"[usize::from(n)]
 }
 
 // "locked 0 or 1".
