@@ -7,7 +7,7 @@ use Rattle.std.specs.Result.{IsErr, IsErrAnd}
 use Rattle.answer.specs.declared.Refused.{Refused}
 use Prim.Native.Nat.{ℕ, zero, suc, ◌+◌, ◌-◌, ◌*◌, ◌/◌, ◌%◌, ◌^◌, ◌<◌, ◌≤◌, min}
 use native.Mathlib.Omega.{arith}
-use native.Mathlib.Nat.{div-one, zero-add, suc-add}
+use native.Mathlib.Nat.{div-one, div-div-eq-div-mul, zero-add, suc-add}
 use native.Mathlib.Numerals.{add-one}
 use mir.Val.{Fits}
 use mir.Syntax.{w8, w64}
@@ -27,7 +27,7 @@ use Rattle.codec.specs.Octets.{splice, left}
 use Rattle.codec.specs.Shortest.{low_octets, bits, integer_size, integer_octets, length_size, length_octets}
 use Rattle.codec.specs.Integer.{integer_element}
 use Rattle.codec.specs.Header.{Identifier, identifier, identifier_octets, header_octets, element_octets}
-use Rattle.codec.proofs.Splice.{splice-nothing, splice_one, length-splice, splice-splice, splice_stores}
+use Rattle.codec.proofs.Splice.{splice-nothing, splice_one, length-splice, splice-splice, splice_before, splice_stores}
 use Rattle.codec.proofs.Shortest.{bits-le, lt-bits, length-low_octets, length-short, length-long}
 use Rattle.codec.proofs.Header.{one_octet, two_octets, three_octets}
 use Rattle.der_write.specs.Write.{of_put, header_put, room_after, room_for}
@@ -105,31 +105,44 @@ module _ (old from : List ℕ) where
       (λ l. let d : k ≡ length from = omega arith in
       e ∙ ap (splice old 0) (take_all k from (omega arith) ∙ sym (take_all (length old) from (omega arith))))
 
-pub octets_copied : (bs ys : List ℕ) (n x y : ℕ) → n ≤ 9 → y ≡ x → bs ≡ bytes_high_first 16 y → ys ≡ take (16 - (16 - n)) (drop (16 - n) bs) → ys ≡ low_octets n x
-octets_copied bs ys n x y h d e q =
-    let l = length-low_octets n x in
-    let k : 16 ≡ 16 - n + n = omega arith in
-    let w : drop (16 - n) (bytes_high_first 16 x) ≡ low_octets n x = ap (λ m. drop (16 - n) (bytes_high_first m x)) k ∙ drop-bytes (16 - n) n x ∙ bytes-low n x in
-    q ∙ rw (e, d, w) (take_all (16 - (16 - n)) (low_octets n x) (omega arith))
+pub whole : (old xs : List ℕ) → length old ≡ length xs → splice old 0 xs ≡ xs
+unfolding splice
+whole old xs e = let d : drop (0 + length xs) old ≡ [] = drop_all (0 + length xs) old (omega arith) in rw (d, append-nil) refl
+
+-- ---- the octets of a number, from the last to the first
+
+module _ (old : List ℕ) (x n : ℕ) where
+  pub octets_start : (x ≡ x / 2 ^ (8 * (n - n))) × (old ≡ splice old n (low_octets (n - n) x))
+  octets_start = let e : n - n ≡ 0 = omega arith in rw e (sym (div-one x), sym (splice-nothing old n))
+
+  pub octets_shift : (k : ℕ) → 0 < k → k ≤ n → x / 2 ^ (8 * (n - k)) / 256 ≡ x / 2 ^ (8 * (n - (k - 1)))
+  octets_shift k p q =
+      let e : n - (k - 1) ≡ suc (n - k) = omega arith in
+      let c : 8 * (n - k) + 8 ≡ 8 * suc (n - k) = omega arith in
+      rw (e, div-div-eq-div-mul, ← c, pow-add) refl
+
+  pub octets_more : (k : ℕ) → 0 < k → k ≤ n → n ≤ length old
+      → set (splice old k (low_octets (n - k) x)) (k - 1) (x / 2 ^ (8 * (n - k)) % 256) ≡ splice old (k - 1) (low_octets (n - (k - 1)) x)
+  octets_more zero p q h = absurd (omega arith)
+  octets_more (suc j) p q h =
+      let e₁ : suc j - 1 ≡ j = omega arith in
+      let e₂ : n - j ≡ suc (n - suc j) = omega arith in
+      rw (e₁, e₂) (splice_before old j (low_octets (n - suc j) x) (x / 2 ^ (8 * (n - suc j)) % 256) (omega (arith, length-low_octets (n - suc j) x)))
+
+  pub octets_all : (k : ℕ) (out : List ℕ) → length old ≡ n → k ≤ 0 → out ≡ splice old k (low_octets (n - k) x) → out ≡ low_octets n x
+  octets_all k out z l q =
+      let e₁ : n - k ≡ n = omega arith in
+      let e₂ : k ≡ 0 = omega arith in
+      q ∙ rw (e₁, e₂) (whole old (low_octets n x) (z ∙ sym (length-low_octets n x)))
 
 -- a part that is filled, of a slice that is just filled so
 pub put_mid_is : (old ys xs : List ℕ) (at k : ℕ) → ys ≡ xs → k ≡ length xs → put_mid at k old ys ≡ splice old at xs
 unfolding splice
 put_mid_is old ys xs at k e h = rw (drop-drop k at old, e, h) refl
 
-pub whole : (old xs : List ℕ) → length old ≡ length xs → splice old 0 xs ≡ xs
-unfolding splice
-whole old xs e = let d : drop (0 + length xs) old ≡ [] = drop_all (0 + length xs) old (omega arith) in rw (d, append-nil) refl
-
 -- all of xs, over a slice that is just as long
 pub copied_whole : (old xs : List ℕ) {to : List ℕ} → length old ≡ length xs → to ≡ splice old 0 (take (length old) xs) → to ≡ xs
 copied_whole old xs h e = e ∙ (ap (splice old 0) (take_all (length old) xs (omega (arith, h))) ∙ whole old xs h)
-
-pub octets_put : (bs old ys : List ℕ) (x y : ℕ) → length old ≤ 9 → y ≡ x → bs ≡ bytes_high_first 16 y
-    → ys ≡ splice old 0 (take (length old) (take (16 - (16 - length old)) (drop (16 - length old) bs))) → ys ≡ low_octets (length old) x
-octets_put bs old ys x y h d e q =
-    let l = octets_copied bs (take (16 - (16 - length old)) (drop (16 - length old) bs)) (length old) x y h d e refl in
-    copied_whole old (low_octets (length old) x) (sym (length-low_octets (length old) x)) (rw l at q)
 
 -- ---- an identifier
 

@@ -70,13 +70,16 @@ pub fn copy_octets(to: &mut [u8], from: &[u8])
     }
 }
 
-// x, the highest octet first, in as many octets as out has.
+// x, the highest octet first, in as many octets as out has: from the last to the first, since to copy so few takes longer.
 fn put_octets(out: &mut [u8], x: u64)
     requires { length out.old ≤ 9 }
     ensures { out.new ≡ low_octets (length out.old) x }
 {
-    let octets = u128::from(x).to_be_bytes();
-    copy_octets(out, &octets[16 - out.len()..]);
+    let mut rest = x;
+    for k in (0..out.len()).rev() {
+        out[k] = (rest % 256) as u8;
+        rest /= 256;
+    }
 }
 
 // An identifier, in just its octets; a number from 31 on is taken apart seven bits to an octet.
