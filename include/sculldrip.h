@@ -49,7 +49,7 @@ extern "C" {
 /* The room that is enough for the listing of a refusal. */
 #define SCULLDRIP_REFUSED_LISTING_BYTES 64
 
-/* The stack that is enough for every call. Measured, in KB: read 8, list 8, write 10, rule 8, octets 4, enrol 9; and 3
+/* The stack that is enough for every call. Measured, in KB: read 8, list 8, write 9, rule 8, octets 4, enrol 9; and 3
  * more in a program's first call, where the linker finds memcpy only then. */
 #define SCULLDRIP_STACK_BYTES 32768
 

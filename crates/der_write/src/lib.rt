@@ -1,6 +1,6 @@
 // The leaves of a writer: an element's header and an INTEGER, put at a place of a lent output. Each refuses what a
 // reader would refuse, or a short output, and then changes not one byte; else it writes just its octets, and answers the
-// place after them.
+// place after them. `copy_octets` refuses nothing: it copies as much as there is room for.
 #![tactic(auto)]
 
 ghost use Rattle.std.specs.Prelude.{◌≡◌, ℕ, ◌+◌, ◌<◌, ◌≤◌, leb, length, take};
@@ -60,8 +60,8 @@ fn place_after(out: &[u8], at: usize, n: usize) -> Result<usize, Refused>
     }
 }
 
-// As many octets of from as to has, at the front of to; what it has beyond them stays. A loop, which becomes memcpy: `copy_from_slice`
-// is for slices that may overlap, and would have whoever links the library bring memmove, too.
+// As many octets of from as to has, at the front of to; what it has beyond them stays. A loop, which becomes memcpy:
+// `copy_from_slice` goes by memmove, which whoever links the library would have to bring, too.
 pub fn copy_octets(to: &mut [u8], from: &[u8])
     ensures { to.new ≡ splice to.old 0 (take (length to.old) from.now) }
 {

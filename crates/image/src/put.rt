@@ -40,8 +40,7 @@ impl Word for u64 {
     }
 }
 
-// The word of each. Words of 64 bits go this way too, by a loop that becomes memcpy: `copy_from_slice` is for slices that may
-// overlap, and would have whoever links the library bring memmove.
+// The word of each. Words of 64 bits go this way too, since `copy_from_slice` would have whoever links the library bring memmove.
 fn put_each<T: Word>(out: &mut [u64], xs: &[T])
     requires { length xs.now ≤ length out.old }
     ensures { out.new ≡ splice out.old 0 (map T.as_word xs.now) }

@@ -245,7 +245,7 @@ impl Text<'_> {
 }
 
 // Octets as lower-case hex, from a place of the output on; the next place. The text is one of its own, since the place of one that is
-// lent is loaded and stored anew at each octet, which takes half as long again.
+// lent is loaded and stored anew at each octet.
 fn put_hex(out: &mut [u8], at: usize, s: &[u8]) -> usize
     ensures is { output out.new result ≡ puts (output out.old at) (hex_text s.now) }
     ensures few { length (hex_text s.now) ≤ 2 * length s.now }
