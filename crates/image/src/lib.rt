@@ -7,7 +7,7 @@ mod layout;
 mod put;
 mod words;
 
-ghost use Rattle.std.specs.Prelude.{◌≡◌, ◌≤◌, length};
+ghost use Rattle.std.specs.Prelude.{◌≡◌, ◌≤◌, length, IfOk};
 ghost use Rattle.image.specs.Image.{record_of, record_in, of_imaged, image_put};
 ghost use Rattle.image.specs.Words.{of_words};
 ghost use Rattle.image.specs.Whole.{WholeRecord};
@@ -20,9 +20,11 @@ pub use crate::words::Words;
 use answer::Refusal;
 use records::Record;
 
-// The words of an image. It is refused where it has too few, and where one that is looked at is that of no record.
+// The words of an image, the very ones that are lent. It is refused where it has too few, and where one that is looked at is that
+// of no record.
 pub fn words_of(image: &[u64]) -> Result<Words, Refusal>
-    ensures { of_words result ≡ record_in image.now }
+    ensures answer { of_words result ≡ record_in image.now }
+    ensures lent { IfOk result (λ w. (w.words.now ≡ image.now) × (w.words.ref_ptr ≡ image.entry.ref_ptr)) }
 {
     if image.len() < IMAGE_WORDS {
         return Err(Refusal::ShortImage);

@@ -13,25 +13,25 @@ pub returns-then-part-lt2-clause-output : goal.returns-then-part-lt2-clause-outp
 returns-then-part-lt2-clause-output c = (answered asked part_words c.args.part.now (ask_no_part c.args.image.now c.args.hardware c.args.number c.args.size c.args.part.now c.if-part-lt2.true) refl).1
 
 pub returns-in_err-words-clause-answer : goal.returns-in_err-words-clause-answer
-returns-in_err-words-clause-answer c = rw (handed_on _ _ c.from_residual.ensures.1) (answered asked part_words c.args.part.now (ask_none c.args.image.now c.args.hardware c.args.number c.args.size c.args.part.now c.if-part-lt2.false _ _ c.in_err-words.ensures) refl).0
+returns-in_err-words-clause-answer c = rw (handed_on _ _ c.from_residual.ensures.1) (answered asked part_words c.args.part.now (ask_none c.args.image.now c.args.hardware c.args.number c.args.size c.args.part.now c.if-part-lt2.false _ _ c.in_err-words.ensures.answer) refl).0
 
 pub returns-in_err-words-clause-output : goal.returns-in_err-words-clause-output
-returns-in_err-words-clause-output c = (answered asked part_words c.args.part.now (ask_none c.args.image.now c.args.hardware c.args.number c.args.size c.args.part.now c.if-part-lt2.false _ _ c.in_err-words.ensures) refl).1
+returns-in_err-words-clause-output c = (answered asked part_words c.args.part.now (ask_none c.args.image.now c.args.hardware c.args.number c.args.size c.args.part.now c.if-part-lt2.false _ _ c.in_err-words.ensures.answer) refl).1
 
 pub returns-in_err-asked-clause-answer : goal.returns-in_err-asked-clause-answer
-returns-in_err-asked-clause-answer c = rw (handed_on _ _ c.from_residual-in_err-asked.ensures.1) (answered asked part_words c.args.part.now (ask_is c.args.image.now c.args.hardware c.args.number c.args.size c.args.part.now c.if-part-lt2.false _ (ap got c.record-r.ensures ∙ c.in_ok-words.ensures) c.in_err-asked.ensures) refl).0
+returns-in_err-asked-clause-answer c = rw (handed_on _ _ c.from_residual-in_err-asked.ensures.1) (answered asked part_words c.args.part.now (ask_is c.args.image.now c.args.hardware c.args.number c.args.size c.args.part.now c.if-part-lt2.false _ (ap got c.record-r.ensures ∙ c.in_ok-words.ensures.answer) c.in_err-asked.ensures) refl).0
 
 pub returns-in_err-asked-clause-output : goal.returns-in_err-asked-clause-output
-returns-in_err-asked-clause-output c = (answered asked part_words c.args.part.now (ask_is c.args.image.now c.args.hardware c.args.number c.args.size c.args.part.now c.if-part-lt2.false _ (ap got c.record-r.ensures ∙ c.in_ok-words.ensures) c.in_err-asked.ensures) refl).1
+returns-in_err-asked-clause-output c = (answered asked part_words c.args.part.now (ask_is c.args.image.now c.args.hardware c.args.number c.args.size c.args.part.now c.if-part-lt2.false _ (ap got c.record-r.ensures ∙ c.in_ok-words.ensures.answer) c.in_err-asked.ensures) refl).1
 
 pub returns-in-None-clause-answer : goal.returns-in-None-clause-answer
-returns-in-None-clause-answer c = (answered asked part_words c.args.part.now (ask_is c.args.image.now c.args.hardware c.args.number c.args.size c.args.part.now c.if-part-lt2.false _ (ap got c.record-r.ensures ∙ c.in_ok-words.ensures) (rw c.in-None.is at c.in_ok-asked.ensures)) (no_part c.args.part.now)).0
+returns-in-None-clause-answer c = (answered asked part_words c.args.part.now (ask_is c.args.image.now c.args.hardware c.args.number c.args.size c.args.part.now c.if-part-lt2.false _ (ap got c.record-r.ensures ∙ c.in_ok-words.ensures.answer) (rw c.in-None.is at c.in_ok-asked.ensures)) (no_part c.args.part.now)).0
 
 pub returns-in-None-clause-output : goal.returns-in-None-clause-output
-returns-in-None-clause-output c = (answered asked part_words c.args.part.now (ask_is c.args.image.now c.args.hardware c.args.number c.args.size c.args.part.now c.if-part-lt2.false _ (ap got c.record-r.ensures ∙ c.in_ok-words.ensures) (rw c.in-None.is at c.in_ok-asked.ensures)) (no_part c.args.part.now)).1
+returns-in-None-clause-output c = (answered asked part_words c.args.part.now (ask_is c.args.image.now c.args.hardware c.args.number c.args.size c.args.part.now c.if-part-lt2.false _ (ap got c.record-r.ensures ∙ c.in_ok-words.ensures.answer) (rw c.in-None.is at c.in_ok-asked.ensures)) (no_part c.args.part.now)).1
 
 pub returns-in-Some-clause-answer : goal.returns-in-Some-clause-answer
-returns-in-Some-clause-answer c = (answered asked part_words c.args.part.now (ask_is c.args.image.now c.args.hardware c.args.number c.args.size c.args.part.now c.if-part-lt2.false _ (ap got c.record-r.ensures ∙ c.in_ok-words.ensures) (rw c.in-Some.is at c.in_ok-asked.ensures)) (part_stored c.args.part.now _ _ c.if-part-lt2.false)).0
+returns-in-Some-clause-answer c = (answered asked part_words c.args.part.now (ask_is c.args.image.now c.args.hardware c.args.number c.args.size c.args.part.now c.if-part-lt2.false _ (ap got c.record-r.ensures ∙ c.in_ok-words.ensures.answer) (rw c.in-Some.is at c.in_ok-asked.ensures)) (part_stored c.args.part.now _ _ c.if-part-lt2.false)).0
 
 pub returns-in-Some-clause-output : goal.returns-in-Some-clause-output
-returns-in-Some-clause-output c = (answered asked part_words c.args.part.now (ask_is c.args.image.now c.args.hardware c.args.number c.args.size c.args.part.now c.if-part-lt2.false _ (ap got c.record-r.ensures ∙ c.in_ok-words.ensures) (rw c.in-Some.is at c.in_ok-asked.ensures)) (part_stored c.args.part.now _ _ c.if-part-lt2.false)).1
+returns-in-Some-clause-output c = (answered asked part_words c.args.part.now (ask_is c.args.image.now c.args.hardware c.args.number c.args.size c.args.part.now c.if-part-lt2.false _ (ap got c.record-r.ensures ∙ c.in_ok-words.ensures.answer) (rw c.in-Some.is at c.in_ok-asked.ensures)) (part_stored c.args.part.now _ _ c.if-part-lt2.false)).1
